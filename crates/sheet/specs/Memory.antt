@@ -1,0 +1,45 @@
+-- What the memory of a sheet holds.
+use mathlib.Core.Path.{_≡_}
+use mathlib.Core.Bool.{Bool, true, false}
+use mathlib.Core.List.{List}
+use Prim.Native.Nat.{ℕ, _<_}
+use lib.ListN.{length, take, getD}
+use denote.Ref.{now}
+use Rattle.std.specs.Results.{isOk}
+use Rattle.std.specs.declared.option.Option.{Option}
+use Rattle.std.specs.declared.option.Option.the-variants.{Some, None}
+use Rattle.std.specs.declared.result.Result.{Result}
+use Rattle.grid.specs.Cells.{count, same, origin}
+use Rattle.grid.specs.declared.cell.Cell.{Cell}
+use Rattle.sheet.specs.Counts.{Counts, answer, step}
+use Rattle.sheet.specs.declared.call.Call.{Call}
+use Rattle.sheet.specs.declared.call.Refusal.{Refusal}
+use Rattle.sheet.specs.declared.sheet.Lent.{Lent}
+
+-- the lent cells, hits and others
+abbrev pub memory : Lent → List Cell
+memory l = now (l .cells)
+
+-- the number of places: as many as were lent
+abbrev pub places : Lent → ℕ
+places l = length (memory l)
+
+-- the hits that are held
+abbrev pub hits : Lent → List Cell
+hits l = take (l .held) (memory l)
+
+-- how often a list of hits has each cell, and how many there are
+abbrev pub tally : List Cell → Counts
+tally hs = record { times = λ c. count c hs; held = length hs }
+
+-- the first place that holds a cell, or none where no hit is of that cell
+abbrev pub Finds : Cell → Lent → Option ℕ → Type 0
+Finds c l None = (k : ℕ) → k < l .held → same c (getD (memory l) k origin) ≡ false
+Finds c l (Some k) = (k < l .held) × (same c (getD (memory l) k origin) ≡ true)
+
+-- what a call leaves and answers, by the counts of the hits before it
+pub record Does (side : ℕ) (before after : Lent) (call : Call) (r : Result ℕ Refusal) : Type 0 where
+  pub answers : r ≡ answer side (places before) (tally (hits before)) call
+  pub counts : tally (hits after) ≡ step side (places before) (tally (hits before)) call
+  pub places : places after ≡ places before
+  pub refused : isOk r ≡ false → memory after ≡ memory before

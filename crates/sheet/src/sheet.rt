@@ -1,0 +1,151 @@
+//! The sheet and its calls.
+ghost use mathlib.Core.Path.{_≡_};
+ghost use Prim.Native.Nat.{ℕ, _≤_, _<_, _+_, _-_};
+ghost use lib.ListN.{length, getD, take, set};
+ghost use mathlib.Core.List.{[]};
+ghost use mathlib.Core.Bool.{true, false};
+ghost use denote.Ref.{now};
+ghost use Rattle.std.specs.declared.result.Result.the-variants.{Ok};
+ghost use Rattle.grid.specs.Cells.{on, origin};
+ghost use Rattle.sheet.specs.Counts.{room};
+ghost use Rattle.sheet.specs.Memory.{memory, places, hits, Finds, Does};
+use grid::Cell;
+use grid::Grid;
+use crate::Call;
+use crate::Refusal;
+
+/// The most hits that any sheet holds.
+pub const MOST_HITS: usize = 1_048_576;
+
+/// Cells that a caller lends. The first `held` of them are hits, and the content of the others is of no account.
+pub struct Lent<'a> {
+    cells: &'a mut [Cell],
+    held: usize,
+}
+
+/// The hits of one field, which are counted and not ordered.
+pub struct Sheet<'a> {
+    grid: Grid,
+    lent: Lent<'a>,
+    ghost within: { lent .held ≤ length (now (lent .cells)) },
+    ghost most: { lent .held ≤ 1048576 },
+    ghost placed: { (k : ℕ) → k < lent .held → on (grid .side) (getD (now (lent .cells)) k origin) ≡ true },
+}
+
+impl Lent<'_> {
+    /// The most hits that there can be.
+    fn room(&self) -> usize
+        ensures { λ r. ⌜ r ≡ room (places (now (self .entry))) ⌝ }
+    {
+        self.cells.len().min(MOST_HITS)
+    }
+
+    /// The first place that holds the cell.
+    fn find(&self, cell: Cell) -> Option<usize>
+        requires { ⌜ now self .held ≤ places (now self) ⌝ }
+        ensures { λ r. ⌜ Finds cell (now (self .entry)) r ⌝ }
+    {
+        for place in 0..self.held {
+            if cell.is(self.cells[place]) {
+                return Some(place);
+            }
+        }
+        None
+    }
+
+    /// One hit more, at the place behind the others.
+    fn add(&mut self, cell: Cell)
+        requires { ⌜ now self .held < places (now self) ⌝ }
+        ensures held { λ _. ⌜ now (self .exit) .held ≡ now (self .entry) .held + 1 ⌝ }
+        ensures memory { λ _. ⌜ memory (now (self .exit)) ≡ set (memory (now (self .entry))) (now (self .entry) .held) cell ⌝ }
+    {
+        self.cells[self.held] = cell;
+        self.held += 1;
+    }
+
+    /// Closes up over the hit at the place: the last hit takes its place.
+    fn close_up(&mut self, place: usize)
+        requires { ⌜ place < now self .held ⌝ ∗ ⌜ now self .held ≤ places (now self) ⌝ }
+        ensures held { λ _. ⌜ now (self .exit) .held + 1 ≡ now (self .entry) .held ⌝ }
+        ensures memory { λ _. ⌜ memory (now (self .exit)) ≡ set (memory (now (self .entry))) place (getD (memory (now (self .entry))) (now (self .exit) .held) origin) ⌝ }
+    {
+        self.held -= 1;
+        self.cells[place] = self.cells[self.held];
+    }
+}
+
+impl<'a> Sheet<'a> {
+    /// A sheet on this grid that holds no hit, whatever the memory contains.
+    pub fn new(grid: Grid, cells: &'a mut [Cell]) -> Sheet<'a>
+        ensures hits { λ r. ⌜ hits (r .lent) ≡ [] ⌝ }
+        ensures memory { λ r. ⌜ memory (r .lent) ≡ now (cells .entry) ⌝ }
+        ensures grid { λ r. ⌜ r .grid ≡ grid ⌝ }
+    {
+        Sheet {
+            grid,
+            lent: Lent { cells, held: 0 },
+        }
+    }
+
+    /// How many hits are held.
+    pub fn held(&self) -> usize
+        ensures { λ r. ⌜ r ≡ length (hits (now (self .entry) .lent)) ⌝ }
+    {
+        self.lent.held
+    }
+
+    /// Adds one hit, and tells how many are then held.
+    pub fn put(&mut self, cell: Cell) -> Result<usize, Refusal>
+        ensures does { λ r. ⌜ Does (now (self .entry) .grid .side) (now (self .entry) .lent) (now (self .exit) .lent) (Call.Put cell) r ⌝ }
+        ensures grid { λ _. ⌜ now (self .exit) .grid ≡ now (self .entry) .grid ⌝ }
+    {
+        if !self.grid.has(cell) {
+            return Err(Refusal::OffGrid);
+        }
+        if self.lent.held >= self.lent.room() {
+            return Err(Refusal::Full);
+        }
+        self.lent.add(cell);
+        Ok(self.lent.held)
+    }
+
+    /// Removes one hit of the cell, and tells how many are then held.
+    pub fn take_back(&mut self, cell: Cell) -> Result<usize, Refusal>
+        ensures does { λ r. ⌜ Does (now (self .entry) .grid .side) (now (self .entry) .lent) (now (self .exit) .lent) (Call.TakeBack cell) r ⌝ }
+        ensures grid { λ _. ⌜ now (self .exit) .grid ≡ now (self .entry) .grid ⌝ }
+    {
+        if !self.grid.has(cell) {
+            return Err(Refusal::OffGrid);
+        }
+        let Some(place) = self.lent.find(cell) else {
+            return Err(Refusal::NotHeld);
+        };
+        self.lent.close_up(place);
+        Ok(self.lent.held)
+    }
+
+    /// Removes all hits, as at the start.
+    pub fn clear(&mut self)
+        ensures does { λ _. ⌜ Does (now (self .entry) .grid .side) (now (self .entry) .lent) (now (self .exit) .lent) Call.Clear (Ok 0) ⌝ }
+        ensures memory { λ _. ⌜ memory (now (self .exit) .lent) ≡ memory (now (self .entry) .lent) ⌝ }
+        ensures grid { λ _. ⌜ now (self .exit) .grid ≡ now (self .entry) .grid ⌝ }
+    {
+        self.lent.held = 0;
+    }
+
+    /// Makes a call, and tells how many hits are then held.
+    pub fn make(&mut self, call: Call) -> Result<usize, Refusal>
+        ensures does { λ r. ⌜ Does (now (self .entry) .grid .side) (now (self .entry) .lent) (now (self .exit) .lent) call r ⌝ }
+        ensures grid { λ _. ⌜ now (self .exit) .grid ≡ now (self .entry) .grid ⌝ }
+    {
+        match call {
+            Call::Put(cell) => self.put(cell),
+            Call::TakeBack(cell) => self.take_back(cell),
+            Call::Clear => {
+                self.clear();
+                Ok(0)
+            }
+            Call::Held => Ok(self.held()),
+        }
+    }
+}
