@@ -77,3 +77,7 @@ abbrev pub answers-from : ℕ → ℕ → Counts → List Call → List (Result 
 answers-from side places t [] = []
 answers-from side places t (call ∷ calls) =
     answer side places t call ∷ answers-from side places (step side places t call) calls
+
+-- what each call of the list answers on a new sheet
+abbrev pub answers : ℕ → ℕ → List Call → List (Result ℕ Refusal)
+answers side places calls = answers-from side places none calls

@@ -1,8 +1,12 @@
 //! The sheet: the hits of one field, in memory that the caller lends.
 mod call;
+mod run;
 mod sheet;
 
 pub use call::Call;
 pub use call::Refusal;
+pub use run::Entry;
+pub use run::run_new;
 pub use sheet::Lent;
+pub use sheet::MOST_HITS;
 pub use sheet::Sheet;

@@ -1,0 +1,96 @@
+-- A run that has come part of the way. Assumes nothing.
+use mathlib.Core.Path.{_≡_, refl, sym, ap, _∙_}
+use mathlib.Core.List.{List, [], _∷_, _++_, map}
+use Prim.Native.Nat.{ℕ, _+_, _<_, _≤_}
+use native.Mathlib.Omega.{arith}
+use lib.ListN.{length, take, set, getD, length-map}
+use lib.Seq.{take-all, map-set, set-getD}
+use Rattle.std.proofs.shelf.Lists.{take-more, take-more-set, getD-map, map-push}
+use Rattle.std.proofs.shelf.Sums.{folded-push}
+use Rattle.std.specs.declared.result.Result.{Result}
+use Rattle.grid.specs.declared.grid.Grid.{Grid}
+use Rattle.sheet.specs.Counts.{Counts, counts-from, answers-from, answer, step}
+use Rattle.sheet.specs.Memory.{places, hits, tally, Does}
+use Rattle.sheet.specs.Runs.{call-of, answer-of}
+use Rattle.sheet.specs.declared.call.Call.{Call}
+use Rattle.sheet.specs.declared.call.Refusal.{Refusal}
+use Rattle.sheet.specs.declared.run.Entry.{Entry}
+use Rattle.sheet.specs.declared.sheet.Lent.{Lent}
+
+-- the first i calls of a journal were made on a sheet
+pub record Ran (on-grid : Grid) (start : Lent) (journal : List Entry) (i : ℕ) (grid′ : Grid) (now′ : Lent) (written : List Entry) : Type 0 where
+  pub counts : tally (hits now′) ≡ counts-from (on-grid .side) (places start) (tally (hits start)) (take i (map call-of journal))
+  pub answers : map answer-of (take i written) ≡ answers-from (on-grid .side) (places start) (tally (hits start)) (take i (map call-of journal))
+  pub calls : map call-of written ≡ map call-of journal
+  pub places : places now′ ≡ places start
+  pub grid : grid′ ≡ on-grid
+
+-- one answer more
+answers-push : (side places : ℕ) (t : Counts) (calls : List Call) (call : Call) → answers-from side places t (calls ++ call ∷ []) ≡ answers-from side places t calls ++ answer side places (counts-from side places t calls) call ∷ []
+answers-push side places t [] call = refl
+answers-push side places t (c ∷ calls) call = ap (λ l. answer side places t c ∷ l) (answers-push side places (step side places t c) calls call)
+
+-- before the first call
+pub ran-none : (grid : Grid) (start : Lent) (journal : List Entry) → Ran grid start journal 0 grid start journal
+ran-none grid start journal = record { counts = refl; answers = refl; calls = refl; places = refl; grid = refl }
+
+-- the call at place i is made, and its answer written beside it
+module _ {grid grid′ : Grid} {start before : Lent} {journal written : List Entry} {i : ℕ}
+    (ran : Ran grid start journal i grid′ before written) (inside : i < length written) (d : Entry) where
+
+  asked : Call
+  asked = call-of (getD written i d)
+
+  one-more : take (i + 1) (map call-of journal) ≡ take i (map call-of journal) ++ asked ∷ []
+  unfolding asked
+  one-more =
+      let within : i < length (map call-of written) = omega (arith, length-map written call-of) in
+      let long = ap length (ran .calls) in
+      take-more (map call-of journal) i (call-of d) (omega arith)
+      ∙ ap (λ l. take i (map call-of journal) ++ getD l i (call-of d) ∷ []) (sym (ran .calls))
+      ∙ ap (λ c. take i (map call-of journal) ++ c ∷ []) (getD-map call-of written i d (call-of d) inside)
+
+  pub ran-more : (after : Lent) (r : Result ℕ Refusal) (grid″ : Grid) → Does (grid′ .side) before after (call-of (getD written i d)) r → grid″ ≡ grid′ → Ran grid start journal (i + 1) grid″ after (set written i (record { call = call-of (getD written i d); answer = r }))
+  unfolding asked
+  ran-more after r grid″ does same-grid = record {
+    counts =
+      does .counts
+      ∙ (λ j. step (ran .grid j .side) (ran .places j) (ran .counts j) asked)
+      ∙ sym (folded-push (step (grid .side) (places start)) (tally (hits start)) (take i (map call-of journal)) asked)
+      ∙ ap (counts-from (grid .side) (places start) (tally (hits start))) (sym one-more);
+    answers =
+      ap (map answer-of) (take-more-set written i entry inside)
+      ∙ map-push answer-of (take i written) entry
+      ∙ (λ j. ran .answers j ++ answered j ∷ [])
+      ∙ sym (answers-push (grid .side) (places start) (tally (hits start)) (take i (map call-of journal)) asked)
+      ∙ ap (answers-from (grid .side) (places start) (tally (hits start))) (sym one-more);
+    calls =
+      map-set call-of written i entry
+      ∙ ap (set (map call-of written) i) (sym (getD-map call-of written i d (call-of d) inside))
+      ∙ set-getD (map call-of written) i (call-of d)
+      ∙ ran .calls;
+    places = does .places ∙ ran .places;
+    grid = same-grid ∙ ran .grid;
+  }
+    where
+      entry : Entry
+      entry = record { call = call-of (getD written i d); answer = r }
+      answered : r ≡ answer (grid .side) (places start) (counts-from (grid .side) (places start) (tally (hits start)) (take i (map call-of journal))) asked
+      answered = does .answers ∙ (λ j. answer (ran .grid j .side) (ran .places j) (ran .counts j) asked)
+
+-- after the last call, all calls of the journal were made
+module _ {grid grid′ : Grid} {start end : Lent} {journal written : List Entry} {i : ℕ}
+    (ran : Ran grid start journal i grid′ end written) (done : length journal ≤ i) where
+
+  all-calls : take i (map call-of journal) ≡ map call-of journal
+  all-calls = take-all i (map call-of journal) (omega (arith, length-map journal call-of))
+
+  pub counts-all : tally (hits end) ≡ counts-from (grid .side) (places start) (tally (hits start)) (map call-of journal)
+  counts-all = ran .counts ∙ ap (counts-from (grid .side) (places start) (tally (hits start))) all-calls
+
+  pub answers-all : map answer-of written ≡ answers-from (grid .side) (places start) (tally (hits start)) (map call-of journal)
+  answers-all =
+      let long = sym (length-map written call-of) ∙ ap length (ran .calls) ∙ length-map journal call-of in
+      ap (map answer-of) (sym (take-all i written (omega arith)))
+      ∙ ran .answers
+      ∙ ap (answers-from (grid .side) (places start) (tally (hits start))) all-calls

@@ -1,0 +1,49 @@
+//! Whole runs of calls.
+ghost use mathlib.Core.Path.{_≡_};
+ghost use mathlib.Core.List.{map};
+ghost use lib.ListN.{length};
+ghost use Rattle.sheet.specs.Counts.{counts, counts-from, answers, answers-from};
+ghost use Rattle.sheet.specs.Memory.{places, hits, tally};
+ghost use Rattle.sheet.specs.Runs.{call-of, answer-of};
+use grid::Cell;
+use grid::Grid;
+use crate::Call;
+use crate::Refusal;
+use crate::Sheet;
+
+/// A call and the answer that it got. Before the run any answer may stand there.
+#[derive(Clone, Copy)]
+pub struct Entry {
+    pub call: Call,
+    pub answer: Result<usize, Refusal>,
+}
+
+impl Sheet<'_> {
+    /// Makes the calls of a journal, the first one first, and writes each answer beside its call.
+    pub fn run(&mut self, journal: &mut [Entry])
+        ensures counts { λ _. ⌜ tally (hits (now (self .exit) .lent)) ≡ counts-from (now (self .entry) .grid .side) (places (now (self .entry) .lent)) (tally (hits (now (self .entry) .lent))) (map call-of (now (journal .entry))) ⌝ }
+        ensures answers { λ _. ⌜ map answer-of (now (journal .exit)) ≡ answers-from (now (self .entry) .grid .side) (places (now (self .entry) .lent)) (tally (hits (now (self .entry) .lent))) (map call-of (now (journal .entry))) ⌝ }
+        ensures calls { λ _. ⌜ map call-of (now (journal .exit)) ≡ map call-of (now (journal .entry)) ⌝ }
+        ensures places { λ _. ⌜ places (now (self .exit) .lent) ≡ places (now (self .entry) .lent) ⌝ }
+        ensures grid { λ _. ⌜ now (self .exit) .grid ≡ now (self .entry) .grid ⌝ }
+    {
+        for i in 0..journal.len() {
+            let call = journal[i].call;
+            let answer = self.make(call);
+            journal[i].answer = answer;
+        }
+    }
+}
+
+/// Makes the calls of a journal on a new sheet, and gives that sheet.
+pub fn run_new<'a>(grid: Grid, cells: &'a mut [Cell], journal: &mut [Entry]) -> Sheet<'a>
+    ensures counts { λ r. ⌜ tally (hits (r .lent)) ≡ counts (grid .side) (places (r .lent)) (map call-of (now (journal .entry))) ⌝ }
+    ensures answers { λ r. ⌜ map answer-of (now (journal .exit)) ≡ answers (grid .side) (places (r .lent)) (map call-of (now (journal .entry))) ⌝ }
+    ensures calls { λ _. ⌜ map call-of (now (journal .exit)) ≡ map call-of (now (journal .entry)) ⌝ }
+    ensures places { λ r. ⌜ places (r .lent) ≡ length (now (cells .entry)) ⌝ }
+    ensures grid { λ r. ⌜ r .grid ≡ grid ⌝ }
+{
+    let mut sheet = Sheet::new(grid, cells);
+    sheet.run(journal);
+    sheet
+}
