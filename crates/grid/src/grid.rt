@@ -6,6 +6,10 @@ ghost use Rattle.std.specs.Vec.{made};
 ghost use Rattle.grid.specs.Cells.{on};
 ghost use Rattle.grid.specs.Sides.{allowed};
 use crate::Cell;
+use crate::SideRefused;
+
+/// The longest side of a grid.
+pub const MOST_SIDE: u32 = 1_048_576;
 
 /// A square grid of cells, with coordinates from 0 to side - 1.
 #[derive(Clone, Copy, Debug)]
@@ -15,17 +19,13 @@ pub struct Grid {
     ghost high: { side ≤ 1048576 },
 }
 
-/// The side is not in 1 to 1,048,576.
-#[derive(Clone, Copy, Debug)]
-pub struct SideRefused;
-
 impl Grid {
     /// The grid of this side, which is from 1 to 1,048,576.
     pub fn new(side: u32) -> Result<Grid, SideRefused>
         ensures refused { λ r. ⌜ isOk r ≡ allowed side ⌝ }
         ensures made { λ r. ⌜ made r (λ g. g .side ≡ side) ⌝ }
     {
-        if side < 1 || side > 1048576 {
+        if side < 1 || side > MOST_SIDE {
             return Err(SideRefused);
         }
         Ok(Grid { side })

@@ -11,7 +11,7 @@ use Rattle.grid.specs.declared.cell.Cell.{Cell}
 use Rattle.line.specs.Pieces.{pieces}
 use Rattle.line.specs.declared.command.Command.{Command}
 use Rattle.line.specs.declared.command.Command.the-variants.{Grid, Put, TakeBack, Clear}
-use Rattle.line.specs.declared.command.NotUnderstood.{NotUnderstood}
+use Rattle.line.specs.declared.refusal.NotUnderstood.{NotUnderstood}
 
 -- a byte from '0' to '9'
 abbrev pub digit : ℕ → Bool
@@ -50,20 +50,27 @@ not-understood = Err (record {})
 
 -- the command of a letter (g is 103, p 112, t 116, c 99) and its numbers: g a side, p and t a cell, c none
 abbrev pub command : ℕ → List ℕ → Result Command NotUnderstood
-command letter [] = cond (eqb letter 99) (Ok Clear) not-understood
-command letter (a ∷ []) = cond (eqb letter 103) (Ok (Grid a)) not-understood
-command letter (a ∷ b ∷ []) =
-    cond (eqb letter 112) (Ok (Put (record { x = a; y = b })))
-    (cond (eqb letter 116) (Ok (TakeBack (record { x = a; y = b }))) not-understood)
-command letter (a ∷ b ∷ d ∷ more) = not-understood
+command l [] = cond (eqb l 99) (Ok Clear) not-understood
+command l (a ∷ []) = cond (eqb l 103) (Ok (Grid a)) not-understood
+command l (a ∷ b ∷ []) =
+    cond (eqb l 112) (Ok (Put (record { x = a; y = b })))
+    (cond (eqb l 116) (Ok (TakeBack (record { x = a; y = b }))) not-understood)
+command l (a ∷ b ∷ d ∷ more) = not-understood
 
 -- the first word is the letter alone
 abbrev pub lettered : List ℕ → Option (List ℕ) → Result Command NotUnderstood
 lettered [] ns = not-understood
-lettered (letter ∷ []) None = not-understood
-lettered (letter ∷ []) (Some ns) = command letter ns
+lettered (l ∷ []) None = not-understood
+lettered (l ∷ []) (Some ns) = command l ns
 lettered (a ∷ b ∷ more) ns = not-understood
 
 -- what a line says: its words stand between spaces
 abbrev pub understood : List ℕ → Result Command NotUnderstood
 understood line = lettered (pieces 32 line .0) (numbers (pieces 32 line .1))
+
+-- the letter that a command's line opens with
+abbrev pub letter : Command → ℕ
+letter (Grid side) = 103
+letter (Put cell) = 112
+letter (TakeBack cell) = 116
+letter Clear = 99

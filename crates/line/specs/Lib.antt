@@ -1,3 +1,4 @@
 pub mod Pieces
 pub mod Grammar
 pub mod Reading
+pub mod Refusals

@@ -9,7 +9,7 @@ use Rattle.std.specs.declared.result.Result.{Result}
 use Rattle.line.specs.Pieces.{Pieces, pieces}
 use Rattle.line.specs.Grammar.{command, not-understood, lettered, followed, both, numbers, understood}
 use Rattle.line.specs.declared.command.Command.{Command}
-use Rattle.line.specs.declared.command.NotUnderstood.{NotUnderstood}
+use Rattle.line.specs.declared.refusal.NotUnderstood.{NotUnderstood}
 use Rattle.line.specs.declared.numbers.Numbers.{Numbers}
 use Rattle.line.specs.declared.reader.Reader.{Reader}
 use Rattle.line.specs.declared.reader.State.{State}

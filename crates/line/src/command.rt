@@ -1,10 +1,12 @@
 //! What a line asks for.
 ghost use mathlib.Core.Path.{_≡_};
-ghost use Rattle.line.specs.Grammar.{command};
+ghost use Rattle.line.specs.Grammar.{command, letter};
+use crate::NotUnderstood;
 use grid::Cell;
+use grid::CellDebug;
 
 /// What a line asks for.
-#[derive(Clone, Copy)]
+#[derive(Clone, Copy, Debug)]
 pub enum Command {
     /// `g`: a grid of this side.
     Grid(u32),
@@ -15,10 +17,6 @@ pub enum Command {
     /// `c`: all hits removed.
     Clear,
 }
-
-/// The line is no command.
-#[derive(Clone, Copy)]
-pub struct NotUnderstood;
 
 impl Command {
     /// The command of a letter and the numbers behind it.
@@ -31,6 +29,18 @@ impl Command {
             ('t', [x, y]) => Ok(Command::TakeBack(Cell { x: *x, y: *y })),
             ('c', []) => Ok(Command::Clear),
             _ => Err(NotUnderstood),
+        }
+    }
+
+    /// The letter that a line with this command opens with.
+    pub fn letter(self) -> char
+        ensures { λ r. ⌜ r ≡ letter self ⌝ }
+    {
+        match self {
+            Command::Grid(_) => 'g',
+            Command::Put(_) => 'p',
+            Command::TakeBack(_) => 't',
+            Command::Clear => 'c',
         }
     }
 }

@@ -3,7 +3,8 @@ mod command;
 mod lines;
 mod numbers;
 mod reader;
+mod refusal;
 
 pub use command::Command;
-pub use command::NotUnderstood;
 pub use lines::Lines;
+pub use refusal::NotUnderstood;

@@ -19,8 +19,8 @@ use Rattle.sheet.specs.Counts.{refusal, accepted, unless, room}
 use Rattle.sheet.specs.Memory.{memory, places, hits, tally, Does}
 use Rattle.sheet.specs.declared.call.Call.{Call}
 use Rattle.sheet.specs.declared.call.Call.the-variants.{Put, TakeBack}
-use Rattle.sheet.specs.declared.call.Refusal.{Refusal}
-use Rattle.sheet.specs.declared.call.Refusal.the-variants.{OffGrid, Full, NotHeld}
+use Rattle.sheet.specs.declared.refusal.Refusal.{Refusal}
+use Rattle.sheet.specs.declared.refusal.Refusal.the-variants.{OffGrid, Full, NotHeld}
 use Rattle.sheet.specs.declared.sheet.Lent.{Lent}
 use Rattle.sheet.proofs.Tallies.{tally-push, tally-closed, none-counted, some-counted}
 

@@ -13,7 +13,7 @@ use Rattle.sheet.specs.Counts.{Counts, counts-from, answers-from, answer, step
 use Rattle.sheet.specs.Memory.{places, hits, tally, Does}
 use Rattle.sheet.specs.Runs.{call-of, answer-of}
 use Rattle.sheet.specs.declared.call.Call.{Call}
-use Rattle.sheet.specs.declared.call.Refusal.{Refusal}
+use Rattle.sheet.specs.declared.refusal.Refusal.{Refusal}
 use Rattle.sheet.specs.declared.run.Entry.{Entry}
 use Rattle.sheet.specs.declared.sheet.Lent.{Lent}
 

@@ -13,8 +13,8 @@ use Rattle.grid.specs.Cells.{same, on}
 use Rattle.grid.specs.declared.cell.Cell.{Cell}
 use Rattle.sheet.specs.declared.call.Call.{Call}
 use Rattle.sheet.specs.declared.call.Call.the-variants.{Put, TakeBack, Clear, Held}
-use Rattle.sheet.specs.declared.call.Refusal.{Refusal}
-use Rattle.sheet.specs.declared.call.Refusal.the-variants.{OffGrid, Full, NotHeld}
+use Rattle.sheet.specs.declared.refusal.Refusal.{Refusal}
+use Rattle.sheet.specs.declared.refusal.Refusal.the-variants.{OffGrid, Full, NotHeld}
 
 -- how often each cell is held, and how many hits in all
 pub record Counts : Type 0 where

@@ -13,7 +13,7 @@ use Rattle.grid.specs.Cells.{count, same, origin}
 use Rattle.grid.specs.declared.cell.Cell.{Cell}
 use Rattle.sheet.specs.Counts.{Counts, answer, step}
 use Rattle.sheet.specs.declared.call.Call.{Call}
-use Rattle.sheet.specs.declared.call.Refusal.{Refusal}
+use Rattle.sheet.specs.declared.refusal.Refusal.{Refusal}
 use Rattle.sheet.specs.declared.sheet.Lent.{Lent}
 
 -- the lent cells, hits and others

@@ -1,8 +1,9 @@
-//! The calls of a sheet, and why it refuses one.
+//! The calls of a sheet.
 use grid::Cell;
+use grid::CellDebug;
 
 /// A call of a sheet, with its argument.
-#[derive(Clone, Copy)]
+#[derive(Clone, Copy, Debug)]
 pub enum Call {
     /// One hit of the cell more.
     Put(Cell),
@@ -12,15 +13,4 @@ pub enum Call {
     Clear,
     /// How many hits are held?
     Held,
-}
-
-/// Why a sheet refuses a call.
-#[derive(Clone, Copy)]
-pub enum Refusal {
-    /// The cell is off the grid.
-    OffGrid,
-    /// The sheet has no place left.
-    Full,
-    /// The cell is not held.
-    NotHeld,
 }
