@@ -18,12 +18,14 @@ use crate::Refusal;
 pub const MOST_HITS: usize = 1_048_576;
 
 /// Cells that a caller lends. The first `held` of them are hits, and the content of the others is of no account.
+#[derive(Drop)]
 pub struct Lent<'a> {
     cells: &'a mut [Cell],
     held: usize,
 }
 
 /// The hits of one field, which are counted and not ordered.
+#[derive(Drop)]
 pub struct Sheet<'a> {
     grid: Grid,
     lent: Lent<'a>,
