@@ -32,6 +32,7 @@ take-min n xs = ⊎-elim short long (cases-lt (length xs) n)
   where
     short : length xs < n → take (min (length xs) n - 0) xs ≡ take n xs
     short h = take-all (min (length xs) n - 0) xs (omega arith) ∙ sym (take-all n xs (omega arith))
+
     long : n ≤ length xs → take (min (length xs) n - 0) xs ≡ take n xs
     long h = let e : min (length xs) n - 0 ≡ n = omega arith in ap (λ k. take k xs) e
 
@@ -42,7 +43,6 @@ one-reply written written′ r others wrote =
 
 -- a line was read off the front of those left
 module _ (left after : List (List ℕ)) (line : Result Command NotUnderstood) (read : Some line ≡ first-command left) (rest : after ≡ behind-first left) where
-
   pub fewer-lines : length after < length left
   fewer-lines = go left read rest
     where
@@ -114,7 +114,6 @@ module _ {on grid′ grid″ : Grid} {start before after : Lent} {input out left
     (called : tally (hits after) ≡ counts-from (grid′ .side) 1024 (tally (hits before)) (calls line))
     (room′ : places after ≡ 1024) (same : grid″ ≡ grid′)
     (replied : written′ ≡ written ++ (text (reply line outcome) ++ 10 ∷ [])) where
-
   pub serving-more : Serving on start input out grid″ after left′ written′
   serving-more = record {
     room = room′;
@@ -126,9 +125,11 @@ module _ {on grid′ grid″ : Grid} {start before after : Lent} {input out left
     where
       side : ℕ
       side = on .side
+
       -- the counts at which the line was done
       now : (earlier : List Call) → tally (hits start) ≡ counts side 1024 earlier → tally (hits before) ≡ counts side 1024 (earlier ++ serving .made)
       now earlier e = serving .tallied ∙ ap (λ t. counts-from side 1024 t (serving .made)) e ∙ sym (counts-after side 1024 none earlier (serving .made))
+
       replies : (earlier : List Call) → tally (hits start) ≡ counts side 1024 earlier → written′ ++ texts (on-grid side (earlier ++ (serving .made ++ calls line)) (lines left′)) ≡ written ++ texts (on-grid side (earlier ++ serving .made) (lines left))
       replies earlier e =
           ap (λ past. written′ ++ texts (on-grid side past (lines left′))) (sym (append-assoc earlier (serving .made) (calls line)))

@@ -20,28 +20,84 @@ const WORKED: [(&str, &str, &str); 37] = [
     ("two letters", "gg 16\n", "? 17\n"),
     ("no space", "g16\n", "? 17\n"),
     ("no digit", "g -1\ng 1a\n", "? 17\n? 17\n"),
-    ("zeros in front", "g 0000000000000000000016\np 00 0000\n", "g 0\np 0 1\n"),
+    (
+        "zeros in front",
+        "g 0000000000000000000016\np 00 0000\n",
+        "g 0\np 0 1\n",
+    ),
     ("the greatest number", "g 4294967295\n", "g 1\n"),
     ("past the greatest number", "g 4294967296\n", "? 17\n"),
     ("far past it", "g 99999999999999999999999\n", "? 17\n"),
     ("sides", "g 0\ng 1048577\ng 1048576\n", "g 1\ng 1\ng 0\n"),
-    ("great coordinates", "g 5\np 4294967295 0\np 0 4294967296\n", "g 0\np 2\n? 17\n"),
+    (
+        "great coordinates",
+        "g 5\np 4294967295 0\np 0 4294967296\n",
+        "g 0\np 2\n? 17\n",
+    ),
     ("before a grid", "p 0 0\nt 0 0\nc\n", "? 17\n? 17\n? 17\n"),
-    ("a grid after a grid", "g 2\ng 2\ng 0\nc\n", "g 0\n? 17\n? 17\nc 0\n"),
-    ("letters of later layers", "g 2\nk\nw 0 0 1 1\nq 0 0\n", "g 0\n? 17\n? 17\n? 17\n"),
+    (
+        "a grid after a grid",
+        "g 2\ng 2\ng 0\nc\n",
+        "g 0\n? 17\n? 17\nc 0\n",
+    ),
+    (
+        "letters of later layers",
+        "g 2\nk\nw 0 0 1 1\nq 0 0\n",
+        "g 0\n? 17\n? 17\n? 17\n",
+    ),
     ("other letters", "g 2\nx\nP 1 1\n", "g 0\n? 17\n? 17\n"),
     ("numbers missing", "g 2\np 1\nt\n", "g 0\n? 17\n? 17\n"),
-    ("numbers too many", "g 2\np 1 1 1\nc 1\n", "g 0\n? 17\n? 17\n"),
-    ("five numbers", "g 2\np 1 1 1 1 1\np 1 1 1 1 1 1\n", "g 0\n? 17\n? 17\n"),
-    ("a byte past ASCII", "g 2\né 1 1\np 1 é\n", "g 0\n? 17\n? 17\n"),
-    ("off the grid in x", "g 2\np 2 0\nt 2 0\n", "g 0\np 2\nt 2\n"),
-    ("off the grid in y", "g 2\np 0 2\nt 0 2\n", "g 0\np 2\nt 2\n"),
-    ("the corner of the grid", "g 2\np 1 1\nt 1 1\n", "g 0\np 0 1\nt 0 0\n"),
+    (
+        "numbers too many",
+        "g 2\np 1 1 1\nc 1\n",
+        "g 0\n? 17\n? 17\n",
+    ),
+    (
+        "five numbers",
+        "g 2\np 1 1 1 1 1\np 1 1 1 1 1 1\n",
+        "g 0\n? 17\n? 17\n",
+    ),
+    (
+        "a byte past ASCII",
+        "g 2\né 1 1\np 1 é\n",
+        "g 0\n? 17\n? 17\n",
+    ),
+    (
+        "off the grid in x",
+        "g 2\np 2 0\nt 2 0\n",
+        "g 0\np 2\nt 2\n",
+    ),
+    (
+        "off the grid in y",
+        "g 2\np 0 2\nt 0 2\n",
+        "g 0\np 2\nt 2\n",
+    ),
+    (
+        "the corner of the grid",
+        "g 2\np 1 1\nt 1 1\n",
+        "g 0\np 0 1\nt 0 0\n",
+    ),
     ("not held", "g 2\nt 1 1\n", "g 0\nt 4\n"),
-    ("the second of two equal hits", "g 9\np 3 4\np 3 4\nt 3 4\nt 3 4\nt 3 4\n", "g 0\np 0 1\np 0 2\nt 0 1\nt 0 0\nt 4\n"),
-    ("a mirrored cell", "g 9\np 3 4\np 4 3\nt 4 3\nt 4 3\nt 3 4\n", "g 0\np 0 1\np 0 2\nt 0 1\nt 4\nt 0 0\n"),
-    ("the first hit goes", "g 9\np 1 1\np 2 2\np 3 3\nt 1 1\nt 3 3\nt 2 2\n", "g 0\np 0 1\np 0 2\np 0 3\nt 0 2\nt 0 1\nt 0 0\n"),
-    ("clear", "g 9\np 1 1\np 2 2\nc\nt 1 1\np 1 1\n", "g 0\np 0 1\np 0 2\nc 0\nt 4\np 0 1\n"),
+    (
+        "the second of two equal hits",
+        "g 9\np 3 4\np 3 4\nt 3 4\nt 3 4\nt 3 4\n",
+        "g 0\np 0 1\np 0 2\nt 0 1\nt 0 0\nt 4\n",
+    ),
+    (
+        "a mirrored cell",
+        "g 9\np 3 4\np 4 3\nt 4 3\nt 4 3\nt 3 4\n",
+        "g 0\np 0 1\np 0 2\nt 0 1\nt 4\nt 0 0\n",
+    ),
+    (
+        "the first hit goes",
+        "g 9\np 1 1\np 2 2\np 3 3\nt 1 1\nt 3 3\nt 2 2\n",
+        "g 0\np 0 1\np 0 2\np 0 3\nt 0 2\nt 0 1\nt 0 0\n",
+    ),
+    (
+        "clear",
+        "g 9\np 1 1\np 2 2\nc\nt 1 1\np 1 1\n",
+        "g 0\np 0 1\np 0 2\nc 0\nt 4\np 0 1\n",
+    ),
 ];
 
 #[test]
@@ -72,7 +128,13 @@ fn long(heap: Global, first: &str, each: &str, times: usize, last: &str) -> Resu
 #[test]
 fn a_full_sheet(rt: LibcRuntime) -> Result<(), Fail> {
     let heap = rt.alloc();
-    let input = long(heap, "g 3\n", "p 1 2\n", 1024, "p 1 2\np 3 0\nt 1 2\np 2 2\np 0 0\n")?;
+    let input = long(
+        heap,
+        "g 3\n",
+        "p 1 2\n",
+        1024,
+        "p 1 2\np 3 0\nt 1 2\np 2 2\np 0 0\n",
+    )?;
     let mut expected = String::from_str(heap, "g 0\n")?;
     for held in 1..1025u32 {
         expected.writeln(format_args!("p 0 {held}"))?;

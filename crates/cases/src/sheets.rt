@@ -10,7 +10,10 @@ use std::test::*;
 
 /// A call that is not answered yet.
 fn asked(call: Call) -> Entry {
-    Entry { call, answer: Ok(0) }
+    Entry {
+        call,
+        answer: Ok(0),
+    }
 }
 
 /// The number that an answer is printed as: the hits held, or 1,000 and the refusal's number.

@@ -31,13 +31,6 @@ impl Grid {
         Ok(Grid { side })
     }
 
-    /// How many cells a row and a column of the grid have.
-    pub fn side(self) -> u32
-        ensures { λ r. ⌜ r ≡ self .side ⌝ }
-    {
-        self.side
-    }
-
     /// Whether the cell lies on the grid.
     pub fn has(self, cell: Cell) -> bool
         ensures { λ r. ⌜ r ≡ on (self .side) cell ⌝ }

@@ -79,6 +79,7 @@ input-ends start r some w = done start [] r (w .sense) (last start some (w .behi
         ends e =
             let more = ap length none ∙ ap (λ a. length (pieces 10 (a ∷ bs) .1)) e in
             absurd (omega arith)
+
         goes-on : (b ≡ 10 → ⊥) → lines (b ∷ bs) ≡ pieces 10 (b ∷ bs) .0 ∷ []
         goes-on other =
             let whole = grows b bs other in

@@ -44,6 +44,7 @@ too-great n b word great =
   where
     past : leb (value n (b ∷ word)) 4294967295 ≡ false
     past = lt-leb (value n (b ∷ word)) 4294967295 (omega (arith, value-grows (n * 10 + (b - 48)) word, great))
+
     never : (x y : Bool) → y ≡ false → (x && y) ≡ false
     never true y e = e
     never false y e = refl

@@ -64,7 +64,11 @@ impl Reader {
             },
             (State::Digits(number), b' ') => {
                 let number = *number;
-                self.state = if self.numbers.push(number) { State::Space } else { State::Broken };
+                self.state = if self.numbers.push(number) {
+                    State::Space
+                } else {
+                    State::Broken
+                };
             }
             _ => self.state = State::Broken,
         }

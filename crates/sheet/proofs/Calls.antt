@@ -50,7 +50,6 @@ pub record Kept (side : ℕ) (l : Lent) : Type 0 where
 module _ (side : ℕ) (before after : Lent) (c : Cell) (sheet : Kept side before) (on-it : on side c ≡ true)
     (free : before .held < room (places before))
     (held : after .held ≡ before .held + 1) (wrote : memory after ≡ set (memory before) (before .held) c) where
-
   long : places after ≡ places before
   long = ap length wrote ∙ length-set (memory before) (before .held) c
 
@@ -63,6 +62,7 @@ module _ (side : ℕ) (before after : Lent) (c : Cell) (sheet : Kept side before
     where
       new : (k : ℕ) → k ≡ before .held → on side (getD (set (memory before) (before .held) c) k origin) ≡ true
       new k e = ap (λ j. on side (getD (set (memory before) (before .held) c) j origin)) e ∙ ap (on side) (getD-set-same (memory before) (before .held) c origin (omega arith)) ∙ on-it
+
       old : (k : ℕ) → k < after .held → k ≢ before .held → on side (getD (set (memory before) (before .held) c) k origin) ≡ true
       old k h ne = ap (on side) (getD-set-other (memory before) (before .held) k c origin ne) ∙ sheet .placed k (omega arith)
 
@@ -71,10 +71,13 @@ module _ (side : ℕ) (before after : Lent) (c : Cell) (sheet : Kept side before
     where
       room-left : ltb (length (hits before)) (room (places before)) ≡ true
       room-left = lt-ltb _ _ (omega (arith, length-take-le (before .held) (memory before) (sheet .within)))
+
       fine : refusal side (places before) (tally (hits before)) (Put c) ≡ None
       fine = ap (λ b. cond b (cond (ltb (length (hits before)) (room (places before))) None (Some Full)) (Some OffGrid)) on-it ∙ ap (λ b. cond b None (Some Full)) room-left
+
       pushed : hits after ≡ hits before ++ c ∷ []
       pushed = (λ i. take (held i) (wrote i)) ∙ take-more-set (memory before) (before .held) c (omega arith)
+
       new : tally (hits after) ≡ accepted (tally (hits before)) (Put c)
       new = ap tally pushed ∙ tally-push (hits before) c
 
@@ -83,7 +86,6 @@ module _ (side place : ℕ) (before after : Lent) (c : Cell) (sheet : Kept side 
     (inside : place < before .held) (is : same c (getD (memory before) place origin) ≡ true)
     (held : after .held + 1 ≡ before .held)
     (wrote : memory after ≡ set (memory before) place (getD (memory before) (after .held) origin)) where
-
   left : places after ≡ places before
   left = ap length wrote ∙ length-set (memory before) place (getD (memory before) (after .held) origin)
 
@@ -99,6 +101,7 @@ module _ (side place : ℕ) (before after : Lent) (c : Cell) (sheet : Kept side 
           ap (λ j. on side (getD (set (memory before) place (getD (memory before) (after .held) origin)) j origin)) e
           ∙ ap (on side) (getD-set-same (memory before) place (getD (memory before) (after .held) origin) origin (omega (arith, sheet .within)))
           ∙ sheet .placed (after .held) (omega arith)
+
       others : (k : ℕ) → k < after .held → k ≢ place → on side (getD (set (memory before) place (getD (memory before) (after .held) origin)) k origin) ≡ true
       others k h ne =
           ap (on side) (getD-set-other (memory before) place k (getD (memory before) (after .held) origin) origin ne)
@@ -109,8 +112,10 @@ module _ (side place : ℕ) (before after : Lent) (c : Cell) (sheet : Kept side 
     where
       some : ltb 0 (count c (hits before)) ≡ true
       some = lt-ltb _ _ (some-counted (memory before) c place (before .held) (sheet .within) inside is)
+
       fine : refusal side (places before) (tally (hits before)) (TakeBack c) ≡ None
       fine = ap (λ b. cond b (cond (ltb 0 (count c (hits before))) None (Some NotHeld)) (Some OffGrid)) on-it ∙ ap (λ b. cond b None (Some NotHeld)) some
+
       new : tally (hits after) ≡ accepted (tally (hits before)) (TakeBack c)
       new =
           ap (λ xs. tally (take (after .held) xs)) wrote
@@ -123,6 +128,7 @@ not-held side before c sheet on-it never = does-refused side before (TakeBack c)
   where
     zero-times : count c (hits before) ≡ 0
     zero-times = none-counted (memory before) c (before .held) (sheet .within) never
+
     why : refusal side (places before) (tally (hits before)) (TakeBack c) ≡ Some NotHeld
     why =
         ap (λ b. cond b (cond (ltb 0 (count c (hits before))) None (Some NotHeld)) (Some OffGrid)) on-it

@@ -37,7 +37,6 @@ ran-none grid start journal = record { counts = refl; answers = refl; calls = re
 -- the call at place i is made, and its answer written beside it
 module _ {grid grid′ : Grid} {start before : Lent} {journal written : List Entry} {i : ℕ}
     (ran : Ran grid start journal i grid′ before written) (inside : i < length written) (d : Entry) where
-
   asked : Call
   asked = call-of (getD written i d)
 
@@ -54,34 +53,34 @@ module _ {grid grid′ : Grid} {start before : Lent} {journal written : List Ent
   unfolding asked
   ran-more after r grid″ does same-grid = record {
     counts =
-      does .counts
-      ∙ (λ j. step (ran .grid j .side) (ran .places j) (ran .counts j) asked)
-      ∙ sym (folded-push (step (grid .side) (places start)) (tally (hits start)) (take i (map call-of journal)) asked)
-      ∙ ap (counts-from (grid .side) (places start) (tally (hits start))) (sym one-more);
+        does .counts
+        ∙ (λ j. step (ran .grid j .side) (ran .places j) (ran .counts j) asked)
+        ∙ sym (folded-push (step (grid .side) (places start)) (tally (hits start)) (take i (map call-of journal)) asked)
+        ∙ ap (counts-from (grid .side) (places start) (tally (hits start))) (sym one-more);
     answers =
-      ap (map answer-of) (take-more-set written i entry inside)
-      ∙ map-push answer-of (take i written) entry
-      ∙ (λ j. ran .answers j ++ answered j ∷ [])
-      ∙ sym (answers-push (grid .side) (places start) (tally (hits start)) (take i (map call-of journal)) asked)
-      ∙ ap (answers-from (grid .side) (places start) (tally (hits start))) (sym one-more);
+        ap (map answer-of) (take-more-set written i entry inside)
+        ∙ map-push answer-of (take i written) entry
+        ∙ (λ j. ran .answers j ++ answered j ∷ [])
+        ∙ sym (answers-push (grid .side) (places start) (tally (hits start)) (take i (map call-of journal)) asked)
+        ∙ ap (answers-from (grid .side) (places start) (tally (hits start))) (sym one-more);
     calls =
-      map-set call-of written i entry
-      ∙ ap (set (map call-of written) i) (sym (getD-map call-of written i d (call-of d) inside))
-      ∙ set-getD (map call-of written) i (call-of d)
-      ∙ ran .calls;
+        map-set call-of written i entry
+        ∙ ap (set (map call-of written) i) (sym (getD-map call-of written i d (call-of d) inside))
+        ∙ set-getD (map call-of written) i (call-of d)
+        ∙ ran .calls;
     places = does .places ∙ ran .places;
     grid = same-grid ∙ ran .grid;
   }
     where
       entry : Entry
       entry = record { call = call-of (getD written i d); answer = r }
+
       answered : r ≡ answer (grid .side) (places start) (counts-from (grid .side) (places start) (tally (hits start)) (take i (map call-of journal))) asked
       answered = does .answers ∙ (λ j. answer (ran .grid j .side) (ran .places j) (ran .counts j) asked)
 
 -- after the last call, all calls of the journal were made
 module _ {grid grid′ : Grid} {start end : Lent} {journal written : List Entry} {i : ℕ}
     (ran : Ran grid start journal i grid′ end written) (done : length journal ≤ i) where
-
   all-calls : take i (map call-of journal) ≡ map call-of journal
   all-calls = take-all i (map call-of journal) (omega (arith, length-map journal call-of))
 

@@ -33,12 +33,14 @@ module _ {X : Type 0} (f : X → ℕ) where
     where
       whole : sumBy f (take (n + 1) xs) ≡ sumBy f (take n xs) + f (getD xs n d)
       whole = sumBy-more f xs n d within
+
       last : n ≤ i → sumBy f (take n (set xs i (getD xs n d))) + f (getD xs i d) ≡ sumBy f (take (n + 1) xs)
       last h =
           let e : i ≡ n = omega arith in
           ap (λ ys. sumBy f ys + f (getD xs i d)) (take-set-le n xs i (getD xs n d) h)
           ∙ ap (λ k. sumBy f (take n xs) + f (getD xs k d)) e
           ∙ sym whole
+
       moved : i < n → sumBy f (take n (set xs i (getD xs n d))) + f (getD xs i d) ≡ sumBy f (take (n + 1) xs)
       moved h =
           let front = length-take-le n xs (omega arith) in
@@ -56,6 +58,7 @@ tally-closed cells c i n inside within is = same-counts _ _ each all
         let gone = sum-closed (λ h. cond (same d h) 1 0) cells i n origin inside within in
         let cell = ap (λ h. cond {A = ℕ} (same d h) 1 0) (same-equal c (getD cells i origin) is) in
         omega (arith, gone, cell)
+
     all : length (take n (set cells i (getD cells n origin))) ≡ length (take (n + 1) cells) - 1
     all =
         length-take-le n (set cells i (getD cells n origin)) (omega (arith, length-set cells i (getD cells n origin)))
@@ -66,7 +69,7 @@ pub none-counted : (cells : List Cell) (c : Cell) (n : ℕ) → n ≤ length cel
 none-counted cells c n within not =
     let long = length-take-le n cells within in
     let each : (k : ℕ) → k < length (take n cells) → cond {A = ℕ} (same c (getD (take n cells) k origin)) 1 0 ≤ 0 =
-      λ k h. simp (getD-take n cells k origin (omega arith), not k (omega arith)) (omega arith) in
+    λ k h. simp (getD-take n cells k origin (omega arith), not k (omega arith)) (omega arith) in
     let most = sumBy-le (λ h. cond (same c h) 1 0) 0 (take n cells) (all-from-getD _ (take n cells) origin each) in
     omega (arith, most, mul-zero (length (take n cells)))
 

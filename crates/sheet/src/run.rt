@@ -5,11 +5,11 @@ ghost use lib.ListN.{length};
 ghost use Rattle.sheet.specs.Counts.{counts, counts-from, answers, answers-from};
 ghost use Rattle.sheet.specs.Memory.{places, hits, tally};
 ghost use Rattle.sheet.specs.Runs.{call-of, answer-of};
-use grid::Cell;
-use grid::Grid;
 use crate::Call;
 use crate::Refusal;
 use crate::Sheet;
+use grid::Cell;
+use grid::Grid;
 
 /// A call and the answer that it got. Before the run any answer may stand there.
 #[derive(Clone, Copy)]

@@ -1,18 +1,17 @@
-//! The sheet and its calls.
+//! The sheet and its memory.
 ghost use mathlib.Core.Path.{_≡_};
-ghost use Prim.Native.Nat.{ℕ, _≤_, _<_, _+_, _-_};
-ghost use lib.ListN.{length, getD, take, set};
+ghost use Prim.Native.Nat.{ℕ, _≤_, _<_, _+_};
+ghost use lib.ListN.{length, getD, set};
 ghost use mathlib.Core.List.{[]};
-ghost use mathlib.Core.Bool.{true, false};
+ghost use mathlib.Core.Bool.{true};
 ghost use denote.Ref.{now};
-ghost use Rattle.std.specs.declared.result.Result.the-variants.{Ok};
 ghost use Rattle.grid.specs.Cells.{on, origin};
 ghost use Rattle.sheet.specs.Counts.{room};
-ghost use Rattle.sheet.specs.Memory.{memory, places, hits, Finds, Does};
+ghost use Rattle.sheet.specs.Memory.{memory, places, hits, Finds};
 use grid::Cell;
 use grid::Grid;
-use crate::Call;
-use crate::Refusal;
+
+mod calls;
 
 /// The most hits that any sheet holds.
 pub const MOST_HITS: usize = 1_048_576;
@@ -94,60 +93,5 @@ impl<'a> Sheet<'a> {
         ensures { λ r. ⌜ r ≡ length (hits (now (self .entry) .lent)) ⌝ }
     {
         self.lent.held
-    }
-
-    /// Adds one hit, and tells how many are then held.
-    pub fn put(&mut self, cell: Cell) -> Result<usize, Refusal>
-        ensures does { λ r. ⌜ Does (now (self .entry) .grid .side) (now (self .entry) .lent) (now (self .exit) .lent) (Call.Put cell) r ⌝ }
-        ensures grid { λ _. ⌜ now (self .exit) .grid ≡ now (self .entry) .grid ⌝ }
-    {
-        if !self.grid.has(cell) {
-            return Err(Refusal::OffGrid);
-        }
-        if self.lent.held >= self.lent.room() {
-            return Err(Refusal::Full);
-        }
-        self.lent.add(cell);
-        Ok(self.lent.held)
-    }
-
-    /// Removes one hit of the cell, and tells how many are then held.
-    pub fn take_back(&mut self, cell: Cell) -> Result<usize, Refusal>
-        ensures does { λ r. ⌜ Does (now (self .entry) .grid .side) (now (self .entry) .lent) (now (self .exit) .lent) (Call.TakeBack cell) r ⌝ }
-        ensures grid { λ _. ⌜ now (self .exit) .grid ≡ now (self .entry) .grid ⌝ }
-    {
-        if !self.grid.has(cell) {
-            return Err(Refusal::OffGrid);
-        }
-        let Some(place) = self.lent.find(cell) else {
-            return Err(Refusal::NotHeld);
-        };
-        self.lent.close_up(place);
-        Ok(self.lent.held)
-    }
-
-    /// Removes all hits, as at the start.
-    pub fn clear(&mut self)
-        ensures does { λ _. ⌜ Does (now (self .entry) .grid .side) (now (self .entry) .lent) (now (self .exit) .lent) Call.Clear (Ok 0) ⌝ }
-        ensures memory { λ _. ⌜ memory (now (self .exit) .lent) ≡ memory (now (self .entry) .lent) ⌝ }
-        ensures grid { λ _. ⌜ now (self .exit) .grid ≡ now (self .entry) .grid ⌝ }
-    {
-        self.lent.held = 0;
-    }
-
-    /// Makes a call, and tells how many hits are then held.
-    pub fn make(&mut self, call: Call) -> Result<usize, Refusal>
-        ensures does { λ r. ⌜ Does (now (self .entry) .grid .side) (now (self .entry) .lent) (now (self .exit) .lent) call r ⌝ }
-        ensures grid { λ _. ⌜ now (self .exit) .grid ≡ now (self .entry) .grid ⌝ }
-    {
-        match call {
-            Call::Put(cell) => self.put(cell),
-            Call::TakeBack(cell) => self.take_back(cell),
-            Call::Clear => {
-                self.clear();
-                Ok(0)
-            }
-            Call::Held => Ok(self.held()),
-        }
     }
 }
