@@ -22,7 +22,7 @@ pub struct Grid {
 impl Grid {
     /// The grid of this side, which is from 1 to 1,048,576.
     pub fn new(side: u32) -> Result<Grid, SideRefused>
-        ensures refused { λ r. ⌜ isOk r ≡ allowed side ⌝ }
+        ensures when { λ r. ⌜ isOk r ≡ allowed side ⌝ }
         ensures made { λ r. ⌜ made r (λ g. g .side ≡ side) ⌝ }
     {
         if side < 1 || side > MOST_SIDE {

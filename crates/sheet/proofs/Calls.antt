@@ -3,11 +3,11 @@ use mathlib.Core.Path.{_≡_, refl, sym, ap, _∙_}
 use mathlib.Core.Logic.{_≢_, ⊎-elim}
 use mathlib.Core.Bool.{Bool, true, false, cond}
 use mathlib.Core.List.{[], _∷_, _++_}
-use Prim.Native.Nat.{ℕ, _+_, _<_, _≤_, min}
+use Prim.Native.Nat.{ℕ, _+_, _<_, _≤_, max}
 use native.Mathlib.Omega.{arith}
 use lib.Dec.{ltb}
-use lib.ListN.{length, take, set, getD, length-set}
-use lib.Seq.{length-take-le, getD-set-same, getD-set-other}
+use lib.ListN.{length, take, drop, set, getD, length-set}
+use lib.Seq.{length-take-le, getD-set-same, getD-set-other, drop-set-lt}
 use Rattle.std.specs.declared.option.Option.{Option}
 use Rattle.std.specs.declared.option.Option.the-variants.{Some, None}
 use Rattle.std.specs.declared.result.Result.the-variants.{Ok, Err}
@@ -16,7 +16,7 @@ use Rattle.std.proofs.shelf.Tests.{true≢false, lt-ltb, cases-eq}
 use Rattle.grid.specs.Cells.{on, same, count, origin}
 use Rattle.grid.specs.declared.cell.Cell.{Cell}
 use Rattle.sheet.specs.Counts.{refusal, accepted, unless, room}
-use Rattle.sheet.specs.Memory.{memory, places, hits, tally, Does}
+use Rattle.sheet.specs.Memory.{memory, places, hits, tally, writes, Does}
 use Rattle.sheet.specs.declared.call.Call.{Call}
 use Rattle.sheet.specs.declared.call.Call.the-variants.{Put, TakeBack}
 use Rattle.sheet.specs.declared.refusal.Refusal.{Refusal}
@@ -24,20 +24,22 @@ use Rattle.sheet.specs.declared.refusal.Refusal.the-variants.{OffGrid, Full, N
 use Rattle.sheet.specs.declared.sheet.Lent.{Lent}
 use Rattle.sheet.proofs.Tallies.{tally-push, tally-closed, none-counted, some-counted}
 
-pub does-accepted : (side n : ℕ) (before after : Lent) (call : Call) → refusal side (places before) (tally (hits before)) call ≡ None → tally (hits after) ≡ accepted (tally (hits before)) call → n ≡ length (hits after) → places after ≡ places before → Does side before after call (Ok n)
-does-accepted side n before after call fine new held kept = record {
-  answers = ap Ok (held ∙ ap (λ t. t .held) new) ∙ ap (λ o. unless o (Ok (accepted (tally (hits before)) call .held)) Err) (sym fine);
-  counts = new ∙ ap (λ o. unless o (accepted (tally (hits before)) call) (λ e. tally (hits before))) (sym fine);
-  places = kept;
-  refused = λ err. absurd (true≢false err);
+pub does-accepted : (side n : ℕ) (before after : Lent) (call : Call) → refusal side (places before) (tally (hits before)) call ≡ None → tally (hits after) ≡ accepted (tally (hits before)) call → n ≡ length (hits after) → places after ≡ places before → (writes call (Ok n) ≡ false → memory after ≡ memory before) → drop (max (before .held) (after .held)) (memory after) ≡ drop (max (before .held) (after .held)) (memory before) → Does side before after call (Ok n)
+does-accepted side n before after call fine new held kept left behind = record {
+  answered = ap Ok (held ∙ ap (λ t. t .held) new) ∙ ap (λ o. unless o (Ok (accepted (tally (hits before)) call .held)) Err) (sym fine);
+  counted = new ∙ ap (λ o. unless o (accepted (tally (hits before)) call) (λ e. tally (hits before))) (sym fine);
+  as-many = kept;
+  left = left;
+  behind = behind;
 }
 
 pub does-refused : (side : ℕ) (before : Lent) (call : Call) (e : Refusal) → refusal side (places before) (tally (hits before)) call ≡ Some e → Does side before before call (Err e)
 does-refused side before call e why = record {
-  answers = ap (λ o. unless o (Ok (accepted (tally (hits before)) call .held)) Err) (sym why);
-  counts = ap (λ o. unless o (accepted (tally (hits before)) call) (λ e. tally (hits before))) (sym why);
-  places = refl;
-  refused = λ err. refl;
+  answered = ap (λ o. unless o (Ok (accepted (tally (hits before)) call .held)) Err) (sym why);
+  counted = ap (λ o. unless o (accepted (tally (hits before)) call) (λ e. tally (hits before))) (sym why);
+  as-many = refl;
+  left = λ idle. refl;
+  behind = refl;
 }
 
 -- what holds of the memory of every sheet
@@ -67,7 +69,7 @@ module _ (side : ℕ) (before after : Lent) (c : Cell) (sheet : Kept side before
       old k h ne = ap (on side) (getD-set-other (memory before) (before .held) k c origin ne) ∙ sheet .placed k (omega arith)
 
   pub put-does : Does side before after (Put c) (Ok (after .held))
-  put-does = does-accepted side (after .held) before after (Put c) fine new (sym (length-take-le (after .held) (memory after) (put-kept .within))) long
+  put-does = does-accepted side (after .held) before after (Put c) fine new (sym (length-take-le (after .held) (memory after) (put-kept .within))) long (λ idle. absurd (true≢false idle)) (ap (drop (max (before .held) (after .held))) wrote ∙ drop-set-lt (max (before .held) (after .held)) (memory before) (before .held) c (omega arith))
     where
       room-left : ltb (length (hits before)) (room (places before)) ≡ true
       room-left = lt-ltb _ _ (omega (arith, length-take-le (before .held) (memory before) (sheet .within)))
@@ -108,7 +110,7 @@ module _ (side place : ℕ) (before after : Lent) (c : Cell) (sheet : Kept side 
           ∙ sheet .placed k (omega arith)
 
   pub take-does : Does side before after (TakeBack c) (Ok (after .held))
-  take-does = does-accepted side (after .held) before after (TakeBack c) fine new (sym (length-take-le (after .held) (memory after) (take-kept .within))) left
+  take-does = does-accepted side (after .held) before after (TakeBack c) fine new (sym (length-take-le (after .held) (memory after) (take-kept .within))) left (λ idle. absurd (true≢false idle)) (ap (drop (max (before .held) (after .held))) wrote ∙ drop-set-lt (max (before .held) (after .held)) (memory before) place (getD (memory before) (after .held) origin) (omega arith))
     where
       some : ltb 0 (count c (hits before)) ≡ true
       some = lt-ltb _ _ (some-counted (memory before) c place (before .held) (sheet .within) inside is)

@@ -1,5 +1,6 @@
 -- A run that has come part of the way. Assumes nothing.
 use mathlib.Core.Path.{_≡_, refl, sym, ap, _∙_}
+use mathlib.Core.Bool.{true, false, not}
 use mathlib.Core.List.{List, [], _∷_, _++_, map}
 use Prim.Native.Nat.{ℕ, _+_, _<_, _≤_}
 use native.Mathlib.Omega.{arith}
@@ -7,11 +8,12 @@ use lib.ListN.{length, take, set, getD, length-map}
 use lib.Seq.{take-all, map-set, set-getD}
 use Rattle.std.proofs.shelf.Lists.{take-more, take-more-set, getD-map, map-push}
 use Rattle.std.proofs.shelf.Sums.{folded-push}
+use Rattle.std.proofs.shelf.Tests.{not-true, and-parts, and-from}
 use Rattle.std.specs.declared.result.Result.{Result}
 use Rattle.grid.specs.declared.grid.Grid.{Grid}
 use Rattle.sheet.specs.Counts.{Counts, counts-from, answers-from, answer, step}
-use Rattle.sheet.specs.Memory.{places, hits, tally, Does}
-use Rattle.sheet.specs.Runs.{call-of, answer-of}
+use Rattle.sheet.specs.Memory.{memory, places, hits, tally, writes, Does}
+use Rattle.sheet.specs.Runs.{call-of, answer-of, none-writes}
 use Rattle.sheet.specs.declared.call.Call.{Call}
 use Rattle.sheet.specs.declared.refusal.Refusal.{Refusal}
 use Rattle.sheet.specs.declared.run.Entry.{Entry}
@@ -22,6 +24,7 @@ pub record Ran (on-grid : Grid) (start : Lent) (journal : List Entry) (i : ℕ) 
   pub counts : tally (hits now′) ≡ counts-from (on-grid .side) (places start) (tally (hits start)) (take i (map call-of journal))
   pub answers : map answer-of (take i written) ≡ answers-from (on-grid .side) (places start) (tally (hits start)) (take i (map call-of journal))
   pub calls : map call-of written ≡ map call-of journal
+  pub left : none-writes (take i written) ≡ true → memory now′ ≡ memory start
   pub places : places now′ ≡ places start
   pub grid : grid′ ≡ on-grid
 
@@ -30,9 +33,17 @@ answers-push : (side places : ℕ) (t : Counts) (calls : List Call) (call : Call
 answers-push side places t [] call = refl
 answers-push side places t (c ∷ calls) call = ap (λ l. answer side places t c ∷ l) (answers-push side places (step side places t c) calls call)
 
+-- one entry more
+none-writes-push : (es : List Entry) (e : Entry) → none-writes (es ++ e ∷ []) ≡ true → (none-writes es ≡ true) × (writes (e .call) (e .answer) ≡ false)
+none-writes-push [] e idle = (refl, not-true _ (and-parts _ true idle .0))
+none-writes-push (x ∷ es) e idle =
+    let parts = and-parts (not (writes (x .call) (x .answer))) (none-writes (es ++ e ∷ [])) idle in
+    let rest = none-writes-push es e (parts .1) in
+    (and-from _ _ (parts .0) (rest .0), rest .1)
+
 -- before the first call
 pub ran-none : (grid : Grid) (start : Lent) (journal : List Entry) → Ran grid start journal 0 grid start journal
-ran-none grid start journal = record { counts = refl; answers = refl; calls = refl; places = refl; grid = refl }
+ran-none grid start journal = record { counts = refl; answers = refl; calls = refl; left = λ idle. refl; places = refl; grid = refl }
 
 -- the call at place i is made, and its answer written beside it
 module _ {grid grid′ : Grid} {start before : Lent} {journal written : List Entry} {i : ℕ}
@@ -53,7 +64,7 @@ module _ {grid grid′ : Grid} {start before : Lent} {journal written : List Ent
   unfolding asked
   ran-more after r grid″ does same-grid = record {
     counts =
-        does .counts
+        does .counted
         ∙ (λ j. step (ran .grid j .side) (ran .places j) (ran .counts j) asked)
         ∙ sym (folded-push (step (grid .side) (places start)) (tally (hits start)) (take i (map call-of journal)) asked)
         ∙ ap (counts-from (grid .side) (places start) (tally (hits start))) (sym one-more);
@@ -68,15 +79,18 @@ module _ {grid grid′ : Grid} {start before : Lent} {journal written : List Ent
         ∙ ap (set (map call-of written) i) (sym (getD-map call-of written i d (call-of d) inside))
         ∙ set-getD (map call-of written) i (call-of d)
         ∙ ran .calls;
-    places = does .places ∙ ran .places;
+    left = λ idle. still (none-writes-push (take i written) entry (ap none-writes (sym (take-more-set written i entry inside)) ∙ idle));
+    places = does .as-many ∙ ran .places;
     grid = same-grid ∙ ran .grid;
   }
     where
       entry : Entry
       entry = record { call = call-of (getD written i d); answer = r }
 
+      still : (none-writes (take i written) ≡ true) × (writes (call-of (getD written i d)) r ≡ false) → memory after ≡ memory start
+      still idle = does .left (idle .1) ∙ ran .left (idle .0)
       answered : r ≡ answer (grid .side) (places start) (counts-from (grid .side) (places start) (tally (hits start)) (take i (map call-of journal))) asked
-      answered = does .answers ∙ (λ j. answer (ran .grid j .side) (ran .places j) (ran .counts j) asked)
+      answered = does .answered ∙ (λ j. answer (ran .grid j .side) (ran .places j) (ran .counts j) asked)
 
 -- after the last call, all calls of the journal were made
 module _ {grid grid′ : Grid} {start end : Lent} {journal written : List Entry} {i : ℕ}
@@ -87,9 +101,14 @@ module _ {grid grid′ : Grid} {start end : Lent} {journal written : List Entry}
   pub counts-all : tally (hits end) ≡ counts-from (grid .side) (places start) (tally (hits start)) (map call-of journal)
   counts-all = ran .counts ∙ ap (counts-from (grid .side) (places start) (tally (hits start))) all-calls
 
+  all-written : take i written ≡ written
+  all-written = take-all i written (omega (arith, sym (length-map written call-of) ∙ ap length (ran .calls) ∙ length-map journal call-of))
+
+  pub left-all : none-writes written ≡ true → memory end ≡ memory start
+  left-all idle = ran .left (ap none-writes all-written ∙ idle)
+
   pub answers-all : map answer-of written ≡ answers-from (grid .side) (places start) (tally (hits start)) (map call-of journal)
   answers-all =
-      let long = sym (length-map written call-of) ∙ ap length (ran .calls) ∙ length-map journal call-of in
-      ap (map answer-of) (sym (take-all i written (omega arith)))
+      ap (map answer-of) (sym all-written)
       ∙ ran .answers
       ∙ ap (answers-from (grid .side) (places start) (tally (hits start))) all-calls

@@ -16,7 +16,7 @@ use Rattle.sheet.specs.declared.call.Call.the-variants.{Put, TakeBack, Clear, 
 use Rattle.sheet.specs.declared.refusal.Refusal.{Refusal}
 use Rattle.sheet.specs.declared.refusal.Refusal.the-variants.{OffGrid, Full, NotHeld}
 
--- how often each cell is held, and how many hits in all
+-- how often each cell is held, and how many hits in all; contracts tie both to one list of hits, in which they agree
 pub record Counts : Type 0 where
   pub times : Cell → ℕ
   pub held : ℕ

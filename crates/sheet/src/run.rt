@@ -1,10 +1,11 @@
 //! Whole runs of calls.
 ghost use mathlib.Core.Path.{_≡_};
+ghost use mathlib.Core.Bool.{true};
 ghost use mathlib.Core.List.{map};
 ghost use lib.ListN.{length};
 ghost use Rattle.sheet.specs.Counts.{counts, counts-from, answers, answers-from};
-ghost use Rattle.sheet.specs.Memory.{places, hits, tally};
-ghost use Rattle.sheet.specs.Runs.{call-of, answer-of};
+ghost use Rattle.sheet.specs.Memory.{memory, places, hits, tally};
+ghost use Rattle.sheet.specs.Runs.{call-of, answer-of, none-writes};
 use crate::Call;
 use crate::Refusal;
 use crate::Sheet;
@@ -18,18 +19,28 @@ pub struct Entry {
     pub answer: Result<usize, Refusal>,
 }
 
+impl Entry {
+    /// A call that is not answered yet.
+    pub fn new(call: Call) -> Entry
+        ensures { λ r. ⌜ r .call ≡ call ⌝ }
+    {
+        Entry { call, answer: Ok(0) }
+    }
+}
+
 impl Sheet<'_> {
     /// Makes the calls of a journal, the first one first, and writes each answer beside its call.
     pub fn run(&mut self, journal: &mut [Entry])
         ensures counts { λ _. ⌜ tally (hits (now (self .exit) .lent)) ≡ counts-from (now (self .entry) .grid .side) (places (now (self .entry) .lent)) (tally (hits (now (self .entry) .lent))) (map call-of (now (journal .entry))) ⌝ }
         ensures answers { λ _. ⌜ map answer-of (now (journal .exit)) ≡ answers-from (now (self .entry) .grid .side) (places (now (self .entry) .lent)) (tally (hits (now (self .entry) .lent))) (map call-of (now (journal .entry))) ⌝ }
         ensures calls { λ _. ⌜ map call-of (now (journal .exit)) ≡ map call-of (now (journal .entry)) ⌝ }
+        ensures left { λ _. ⌜ (none-writes (now (journal .exit)) ≡ true → memory (now (self .exit) .lent) ≡ memory (now (self .entry) .lent)) ⌝ }
         ensures places { λ _. ⌜ places (now (self .exit) .lent) ≡ places (now (self .entry) .lent) ⌝ }
         ensures grid { λ _. ⌜ now (self .exit) .grid ≡ now (self .entry) .grid ⌝ }
     {
         for i in 0..journal.len() {
             let call = journal[i].call;
-            let answer = self.make(call);
+            let answer = self.apply(call);
             journal[i].answer = answer;
         }
     }
@@ -40,6 +51,7 @@ pub fn run_new<'a>(grid: Grid, cells: &'a mut [Cell], journal: &mut [Entry]) -> 
     ensures counts { λ r. ⌜ tally (hits (r .lent)) ≡ counts (grid .side) (places (r .lent)) (map call-of (now (journal .entry))) ⌝ }
     ensures answers { λ r. ⌜ map answer-of (now (journal .exit)) ≡ answers (grid .side) (places (r .lent)) (map call-of (now (journal .entry))) ⌝ }
     ensures calls { λ _. ⌜ map call-of (now (journal .exit)) ≡ map call-of (now (journal .entry)) ⌝ }
+    ensures left { λ r. ⌜ (none-writes (now (journal .exit)) ≡ true → memory (r .lent) ≡ now (cells .entry)) ⌝ }
     ensures places { λ r. ⌜ places (r .lent) ≡ length (now (cells .entry)) ⌝ }
     ensures grid { λ r. ⌜ r .grid ≡ grid ⌝ }
 {

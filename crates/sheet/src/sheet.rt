@@ -41,7 +41,7 @@ impl Lent<'_> {
         self.cells.len().min(MOST_HITS)
     }
 
-    /// The first place that holds the cell.
+    /// A place that holds the cell.
     fn find(&self, cell: Cell) -> Option<usize>
         requires { ⌜ now self .held ≤ places (now self) ⌝ }
         ensures { λ r. ⌜ Finds cell (now (self .entry)) r ⌝ }

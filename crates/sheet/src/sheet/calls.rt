@@ -1,7 +1,7 @@
 //! The calls of a sheet.
 ghost use mathlib.Core.Path.{_≡_};
 ghost use Rattle.std.specs.declared.result.Result.the-variants.{Ok};
-ghost use Rattle.sheet.specs.Memory.{memory, Does};
+ghost use Rattle.sheet.specs.Memory.{Does};
 use crate::Call;
 use crate::Refusal;
 use crate::Sheet;
@@ -38,17 +38,16 @@ impl Sheet<'_> {
         Ok(self.lent.held)
     }
 
-    /// Removes all hits, as at the start.
+    /// Removes all hits, as at the start. It has no answer; of a call in a run the answer is that 0 hits are held.
     pub fn clear(&mut self)
         ensures does { λ _. ⌜ Does (now (self .entry) .grid .side) (now (self .entry) .lent) (now (self .exit) .lent) Call.Clear (Ok 0) ⌝ }
-        ensures memory { λ _. ⌜ memory (now (self .exit) .lent) ≡ memory (now (self .entry) .lent) ⌝ }
         ensures grid { λ _. ⌜ now (self .exit) .grid ≡ now (self .entry) .grid ⌝ }
     {
         self.lent.held = 0;
     }
 
-    /// Makes a call, and tells how many hits are then held.
-    pub fn make(&mut self, call: Call) -> Result<usize, Refusal>
+    /// Does what a call says, and tells how many hits are then held.
+    pub fn apply(&mut self, call: Call) -> Result<usize, Refusal>
         ensures does { λ r. ⌜ Does (now (self .entry) .grid .side) (now (self .entry) .lent) (now (self .exit) .lent) call r ⌝ }
         ensures grid { λ _. ⌜ now (self .exit) .grid ≡ now (self .entry) .grid ⌝ }
     {

@@ -1,5 +1,5 @@
 use native.Mathlib.Omega.{arith}
-use Rattle.sheet.proofs.Running.{ran-none, ran-more, counts-all, answers-all}
+use Rattle.sheet.proofs.Running.{ran-none, ran-more, counts-all, answers-all, left-all}
 use Rattle.sheet.proofs.sheet.Sheet.run.Needs as need
 
 pub loop-i-holds : need.loop-i-holds
@@ -7,11 +7,11 @@ loop-i-holds c = ran-none _ _ _
 
 pub loop-i-again : need.loop-i-again
 loop-i-again c =
-    let made = c .make-answer .ensures in
+    let made = c .apply-answer .ensures in
     ran-more (c .loop-i .inv) (omega arith) _ _ _ _ (made .does) (made .grid)
 
 pub returns : need.returns
 returns c =
     let ran = c .loop-i .inv in
     let end = c .loop-i-test .left in
-    record { counts = counts-all ran end; answers = answers-all ran end; calls = ran .calls; places = ran .places; grid = ran .grid }
+    record { counts = counts-all ran end; answers = answers-all ran end; calls = ran .calls; left = left-all ran end; places = ran .places; grid = ran .grid }
