@@ -13,12 +13,12 @@ use Rattle.sheet.specs.Counts.{Counts, counts, answer}
 use Rattle.sheet.specs.declared.call.Call.{Call}
 use Rattle.sheet.specs.declared.call.Call.the-variants as call
 use Rattle.sheet.specs.declared.refusal.Refusal.{Refusal}
-use Rattle.line.specs.Grammar.{understood, letter}
+use Rattle.line.specs.Grammar.{understood, opening}
 use Rattle.line.specs.Pieces.{lines}
 use Rattle.line.specs.declared.command.Command.{Command}
 use Rattle.line.specs.declared.command.Command.the-variants.{Grid, Put, TakeBack, Clear}
 use Rattle.line.specs.declared.refusal.NotUnderstood.{NotUnderstood}
-use Rattle.book.specs.Replies.{text}
+use Rattle.book.specs.Replies.{line}
 use Rattle.book.specs.declared.refusal.Refused.{Refused}
 use Rattle.book.specs.declared.refusal.Refused.the-variants.{Side, Sheet, Line}
 use Rattle.book.specs.declared.reply.Reply.{Reply}
@@ -29,8 +29,9 @@ use Rattle.book.specs.declared.reply.Told.the-variants.{Nothing, Held}
 abbrev pub sheet-places : ℕ
 sheet-places = 1024
 
-abbrev pub not-understood : Result Told Refused
-not-understood = Err (Line (record {}))
+-- what comes of a line that is not understood
+abbrev pub line-refused : Result Told Refused
+line-refused = Err (Line (record {}))
 
 -- the hits held, or the sheet's refusal
 abbrev pub held-or-refused : Result ℕ Refusal → Result Told Refused
@@ -40,18 +41,18 @@ held-or-refused (Err refused) = Err (Sheet refused)
 -- a line before a grid was accepted: only `g` is understood there
 abbrev pub outcome-before : Result Command NotUnderstood → Result Told Refused
 outcome-before (Ok (Grid side)) = cond (allowed side) (Ok Nothing) (Err (Side (record {})))
-outcome-before (Ok (Put c)) = not-understood
-outcome-before (Ok (TakeBack c)) = not-understood
-outcome-before (Ok Clear) = not-understood
-outcome-before (Err e) = not-understood
+outcome-before (Ok (Put c)) = line-refused
+outcome-before (Ok (TakeBack c)) = line-refused
+outcome-before (Ok Clear) = line-refused
+outcome-before (Err e) = line-refused
 
 -- a line on a sheet with the counts t: `g` is understood no more
 abbrev pub outcome-on : ℕ → Counts → Result Command NotUnderstood → Result Told Refused
-outcome-on side t (Ok (Grid s)) = not-understood
+outcome-on side t (Ok (Grid s)) = line-refused
 outcome-on side t (Ok (Put c)) = held-or-refused (answer side sheet-places t (call.Put c))
 outcome-on side t (Ok (TakeBack c)) = held-or-refused (answer side sheet-places t (call.TakeBack c))
 outcome-on side t (Ok Clear) = Ok Nothing
-outcome-on side t (Err e) = not-understood
+outcome-on side t (Err e) = line-refused
 
 -- the calls of the sheet that a line makes: one or none
 abbrev pub calls : Result Command NotUnderstood → List Call
@@ -63,17 +64,17 @@ calls (Err e) = []
 
 -- the letter of a line's command, and `?` where there is none
 abbrev pub letter-of : Result Command NotUnderstood → ℕ
-letter-of (Ok command) = letter command
+letter-of (Ok command) = opening command
 letter-of (Err e) = 63
 
 abbrev pub reply : Result Command NotUnderstood → Result Told Refused → Reply
-reply line outcome = record { letter = letter-of line; outcome = outcome }
+reply said outcome = record { letter = letter-of said; outcome = outcome }
 
 -- the replies to lines on a grid of this side, after the sheet's calls that the lines before them made
 abbrev pub on-grid : ℕ → List Call → List (List ℕ) → List Reply
 on-grid side past [] = []
-on-grid side past (line ∷ others) =
-    reply (understood line) (outcome-on side (counts side sheet-places past) (understood line)) ∷ on-grid side (past ++ calls (understood line)) others
+on-grid side past (l ∷ others) =
+    reply (understood l) (outcome-on side (counts side sheet-places past) (understood l)) ∷ on-grid side (past ++ calls (understood l)) others
 
 -- the side of the grid that a line opens
 abbrev pub opens : Result Command NotUnderstood → Option ℕ
@@ -91,12 +92,12 @@ behind (Some side) not-open others = on-grid side [] others
 -- the replies to lines from the start
 abbrev pub from-start : List (List ℕ) → List Reply
 from-start [] = []
-from-start (line ∷ others) =
-    reply (understood line) (outcome-before (understood line)) ∷ behind (opens (understood line)) (from-start others) others
+from-start (l ∷ others) =
+    reply (understood l) (outcome-before (understood l)) ∷ behind (opens (understood l)) (from-start others) others
 
 -- the text of replies, a line each
 abbrev pub texts : List Reply → List ℕ
-texts replies = joined (λ r. text r ++ 10 ∷ []) replies
+texts replies = joined line replies
 
 -- what the program writes on an input, of which it reads 65,536 bytes at most
 abbrev pub session : List ℕ → List ℕ

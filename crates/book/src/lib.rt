@@ -1,10 +1,10 @@
 //! The store behind the program's lines.
+mod page;
 mod refusal;
 mod reply;
-mod session;
 
+pub use page::session::MOST_INPUT;
+pub use page::session::replies;
 pub use refusal::Refused;
 pub use reply::Reply;
 pub use reply::Told;
-pub use session::MOST_INPUT;
-pub use session::replies;

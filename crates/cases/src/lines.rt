@@ -3,6 +3,23 @@ use book::replies;
 use std::alloc::Global;
 use std::test::*;
 
+/// The replies to an input are these; two bytes behind them stay, and of lent bytes that are too few those that there are
+/// get written.
+fn session(heap: Global, input: &[u8], expected: &[u8]) -> Result<(), Fail> {
+    let len = replies(input, &mut []);
+    let mut out = vec![in heap; b'#'; len.saturating_add(2)]?;
+    check_eq(replies(input, out.as_mut_slice()), len)?;
+    let mut whole = expected.to_vec(heap)?;
+    whole.extend_from_slice(b"##")?;
+    check_eq(out, whole)?;
+    let mut short = [b'#'; 3];
+    check_eq(replies(input, &mut short), len)?;
+    for (a, b) in short.iter().zip(expected.iter()) {
+        check_eq(*a, *b)?;
+    }
+    Ok(())
+}
+
 /// What a session shows, its input, and the replies to it.
 const WORKED: [(&str, &str, &str); 37] = [
     ("no input", "", ""),
@@ -103,7 +120,7 @@ const WORKED: [(&str, &str, &str); 37] = [
 #[test]
 fn worked_sessions(rt: LibcRuntime) -> Result<(), Fail> {
     for (about, input, expected) in WORKED {
-        check_eq(replies(rt.alloc(), input.as_bytes())?.as_str(), expected).note(about)?;
+        session(rt.alloc(), input.as_bytes(), expected.as_bytes()).note(about)?;
     }
     Ok(())
 }
@@ -140,7 +157,7 @@ fn a_full_sheet(rt: LibcRuntime) -> Result<(), Fail> {
         expected.writeln(format_args!("p 0 {held}"))?;
     }
     expected.push_str("p 3\np 2\nt 0 1023\np 0 1024\np 3\n")?;
-    check_eq(replies(heap, input.as_bytes())?.as_str(), expected.as_str())
+    session(heap, input.as_bytes(), expected.as_bytes())
 }
 
 /// 4 bytes and 32,766 times 2 bytes are 65,536; a line more is not read.
@@ -149,7 +166,7 @@ fn the_most_input(rt: LibcRuntime) -> Result<(), Fail> {
     let heap = rt.alloc();
     let input = long(heap, "g 1\n", "c\n", 32766, "p 0 0\n")?;
     let expected = long(heap, "g 0\n", "c 0\n", 32766, "")?;
-    check_eq(replies(heap, input.as_bytes())?.as_str(), expected.as_str())
+    session(heap, input.as_bytes(), expected.as_bytes())
 }
 
 /// The last line that is read is cut off behind its second space.
@@ -158,5 +175,5 @@ fn a_line_cut_off(rt: LibcRuntime) -> Result<(), Fail> {
     let heap = rt.alloc();
     let input = long(heap, "g 1\n", "c\n", 32764, "p 0 0\n")?;
     let expected = long(heap, "g 0\n", "c 0\n", 32764, "? 17\n")?;
-    check_eq(replies(heap, input.as_bytes())?.as_str(), expected.as_str())
+    session(heap, input.as_bytes(), expected.as_bytes())
 }

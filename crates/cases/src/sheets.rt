@@ -3,18 +3,8 @@ use grid::Cell;
 use grid::Grid;
 use sheet::Call;
 use sheet::Entry;
-use sheet::Refusal;
-use sheet::Sheet;
 use sheet::run_new;
 use std::test::*;
-
-/// A call that is not answered yet.
-fn asked(call: Call) -> Entry {
-    Entry {
-        call,
-        answer: Ok(0),
-    }
-}
 
 /// The number that an answer is printed as: the hits held, or 1,000 and the refusal's number.
 fn told(entry: Entry) -> usize {
@@ -34,18 +24,18 @@ fn a_run_answers_each_call() -> Result<(), Fail> {
     let off = Cell { x: 4, y: 0 };
     let mut cells = [off; 2];
     let mut journal = [
-        asked(Call::Held),
-        asked(Call::TakeBack(here)),
-        asked(Call::Put(off)),
-        asked(Call::Put(here)),
-        asked(Call::Put(here)),
-        asked(Call::Put(there)),
-        asked(Call::TakeBack(there)),
-        asked(Call::TakeBack(here)),
-        asked(Call::Put(there)),
-        asked(Call::Held),
-        asked(Call::Clear),
-        asked(Call::TakeBack(off)),
+        Entry::new(Call::Held),
+        Entry::new(Call::TakeBack(here)),
+        Entry::new(Call::Put(off)),
+        Entry::new(Call::Put(here)),
+        Entry::new(Call::Put(here)),
+        Entry::new(Call::Put(there)),
+        Entry::new(Call::TakeBack(there)),
+        Entry::new(Call::TakeBack(here)),
+        Entry::new(Call::Put(there)),
+        Entry::new(Call::Held),
+        Entry::new(Call::Clear),
+        Entry::new(Call::TakeBack(off)),
     ];
     let sheet = run_new(grid, &mut cells, &mut journal);
     check_eq(sheet.held(), 0)?;

@@ -3,7 +3,7 @@ use mathlib.Core.Path.{_≡_, refl, sym, ap, _∙_}
 use mathlib.Core.Logic.{⊎-elim}
 use mathlib.Core.Bool.{cond}
 use mathlib.Core.List.{List, [], _∷_}
-use Prim.Native.Nat.{ℕ, _-_, _<_}
+use Prim.Native.Nat.{ℕ, suc, _-_, _<_, _≤_}
 use native.Mathlib.Omega.{arith}
 use lib.ListN.{length, getD, take, drop}
 use lib.Seq.{take-all}
@@ -87,3 +87,21 @@ input-ends start r some w = done start [] r (w .sense) (last start some (w .behi
             ap (λ p. without-empty-end (p .0) (p .1)) whole
             ∙ ap (without-empty-end (b ∷ pieces 10 bs .0)) (sym alone)
             ∙ ap (λ p. p .0 ∷ []) (sym whole)
+
+-- an input has at most as many lines as bytes
+pub few-lines : (input : List ℕ) → length (lines input) ≤ length input
+few-lines [] = omega arith
+few-lines (b ∷ bs) = ⊎-elim (ends (few-lines bs)) (goes-on (few-lines bs)) (cases-eq b 10)
+  where
+    ends : length (lines bs) ≤ length bs → b ≡ 10 → length (lines (b ∷ bs)) ≤ suc (length bs)
+    ends few e =
+        let more : length (lines (b ∷ bs)) ≡ suc (length (lines bs)) = ap (λ a. length (lines (a ∷ bs))) e in
+        omega arith
+    longer : (piece : List ℕ) (others : List (List ℕ)) → length (without-empty-end (b ∷ piece) others) ≤ suc (length (without-empty-end piece others))
+    longer piece [] = omega arith
+    longer [] (next ∷ others) = omega arith
+    longer (x ∷ piece) (next ∷ others) = omega arith
+    goes-on : length (lines bs) ≤ length bs → (b ≡ 10 → ⊥) → length (lines (b ∷ bs)) ≤ suc (length bs)
+    goes-on few other =
+        let whole : length (lines (b ∷ bs)) ≡ length (without-empty-end (b ∷ pieces 10 bs .0) (pieces 10 bs .1)) = ap (λ p. length (without-empty-end (p .0) (p .1))) (grows b bs other) in
+        omega (arith, longer (pieces 10 bs .0) (pieces 10 bs .1))

@@ -31,10 +31,11 @@ abbrev pub followed : ℕ → List ℕ → Option ℕ
 followed n word = cond (digits word && leb (value n word) 4294967295) (Some (value n word)) None
 
 -- the number that a word spells; zeros in front are allowed, but at least one digit is needed
-abbrev pub number : List ℕ → Option ℕ
-number [] = None
-number (b ∷ bs) = followed 0 (b ∷ bs)
+abbrev pub spelled : List ℕ → Option ℕ
+spelled [] = None
+spelled (b ∷ bs) = followed 0 (b ∷ bs)
 
+-- a number in front of others, where there are both
 abbrev pub both : Option ℕ → Option (List ℕ) → Option (List ℕ)
 both None rest = None
 both (Some n) None = None
@@ -43,7 +44,7 @@ both (Some n) (Some ns) = Some (n ∷ ns)
 -- the numbers of several words, where each spells one
 abbrev pub numbers : List (List ℕ) → Option (List ℕ)
 numbers [] = Some []
-numbers (word ∷ words) = both (number word) (numbers words)
+numbers (word ∷ words) = both (spelled word) (numbers words)
 
 abbrev pub not-understood : Result Command NotUnderstood
 not-understood = Err (record {})
@@ -69,8 +70,8 @@ abbrev pub understood : List ℕ → Result Command NotUnderstood
 understood line = lettered (pieces 32 line .0) (numbers (pieces 32 line .1))
 
 -- the letter that a command's line opens with
-abbrev pub letter : Command → ℕ
-letter (Grid side) = 103
-letter (Put cell) = 112
-letter (TakeBack cell) = 116
-letter Clear = 99
+abbrev pub opening : Command → ℕ
+opening (Grid side) = 103
+opening (Put cell) = 112
+opening (TakeBack cell) = 116
+opening Clear = 99

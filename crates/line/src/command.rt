@@ -1,6 +1,6 @@
 //! What a line asks for.
 ghost use mathlib.Core.Path.{_≡_};
-ghost use Rattle.line.specs.Grammar.{command, letter};
+ghost use Rattle.line.specs.Grammar.{command, opening};
 use crate::NotUnderstood;
 use grid::Cell;
 use grid::CellDebug;
@@ -33,14 +33,14 @@ impl Command {
     }
 
     /// The letter that a line with this command opens with.
-    pub fn letter(self) -> char
-        ensures { λ r. ⌜ r ≡ letter self ⌝ }
+    pub fn letter(self) -> u8
+        ensures { λ r. ⌜ r ≡ opening self ⌝ }
     {
         match self {
-            Command::Grid(_) => 'g',
-            Command::Put(_) => 'p',
-            Command::TakeBack(_) => 't',
-            Command::Clear => 'c',
+            Command::Grid(_) => b'g',
+            Command::Put(_) => b'p',
+            Command::TakeBack(_) => b't',
+            Command::Clear => b'c',
         }
     }
 }

@@ -6,10 +6,10 @@ ghost use Prim.Native.Nat.{_≤_};
 ghost use lib.Dec.{ltb};
 ghost use lib.ListN.{length, take};
 
-/// The most numbers that a command has.
+/// The most numbers that are kept: as many as a command with two corners has, and no command has more.
 const MOST_NUMBERS: usize = 4;
 
-/// The numbers of a line, in order, as far as they were read: four at most, since no command has more.
+/// The numbers of a line, in order, as far as they were read: four at most.
 #[derive(Clone, Copy)]
 pub struct Numbers {
     /// Those from `count` on are of no account.

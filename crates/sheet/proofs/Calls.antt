@@ -7,6 +7,7 @@ use Prim.Native.Nat.{ℕ, _+_, _<_, _≤_, max}
 use native.Mathlib.Omega.{arith}
 use lib.Dec.{ltb}
 use lib.ListN.{length, take, drop, set, getD, length-set}
+use denote.Ref.{name}
 use lib.Seq.{length-take-le, getD-set-same, getD-set-other, drop-set-lt}
 use Rattle.std.specs.declared.option.Option.{Option}
 use Rattle.std.specs.declared.option.Option.the-variants.{Some, None}
@@ -24,10 +25,11 @@ use Rattle.sheet.specs.declared.refusal.Refusal.the-variants.{OffGrid, Full, N
 use Rattle.sheet.specs.declared.sheet.Lent.{Lent}
 use Rattle.sheet.proofs.Tallies.{tally-push, tally-closed, none-counted, some-counted}
 
-pub does-accepted : (side n : ℕ) (before after : Lent) (call : Call) → refusal side (places before) (tally (hits before)) call ≡ None → tally (hits after) ≡ accepted (tally (hits before)) call → n ≡ length (hits after) → places after ≡ places before → (writes call (Ok n) ≡ false → memory after ≡ memory before) → drop (max (before .held) (after .held)) (memory after) ≡ drop (max (before .held) (after .held)) (memory before) → Does side before after call (Ok n)
-does-accepted side n before after call fine new held kept left behind = record {
+pub does-accepted : (side n : ℕ) (before after : Lent) (call : Call) → refusal side (places before) (tally (hits before)) call ≡ None → tally (hits after) ≡ accepted (tally (hits before)) call → n ≡ length (hits after) → name (after .cells) ≡ name (before .cells) → places after ≡ places before → (writes call (Ok n) ≡ false → memory after ≡ memory before) → drop (max (before .held) (after .held)) (memory after) ≡ drop (max (before .held) (after .held)) (memory before) → Does side before after call (Ok n)
+does-accepted side n before after call fine new held same kept left behind = record {
   answered = ap Ok (held ∙ ap (λ t. t .held) new) ∙ ap (λ o. unless o (Ok (accepted (tally (hits before)) call .held)) Err) (sym fine);
   counted = new ∙ ap (λ o. unless o (accepted (tally (hits before)) call) (λ e. tally (hits before))) (sym fine);
+  lent = same;
   as-many = kept;
   left = left;
   behind = behind;
@@ -37,6 +39,7 @@ pub does-refused : (side : ℕ) (before : Lent) (call : Call) (e : Refusal) → 
 does-refused side before call e why = record {
   answered = ap (λ o. unless o (Ok (accepted (tally (hits before)) call .held)) Err) (sym why);
   counted = ap (λ o. unless o (accepted (tally (hits before)) call) (λ e. tally (hits before))) (sym why);
+  lent = refl;
   as-many = refl;
   left = λ idle. refl;
   behind = refl;
@@ -51,7 +54,8 @@ pub record Kept (side : ℕ) (l : Lent) : Type 0 where
 -- a hit of c is added behind the others
 module _ (side : ℕ) (before after : Lent) (c : Cell) (sheet : Kept side before) (on-it : on side c ≡ true)
     (free : before .held < room (places before))
-    (held : after .held ≡ before .held + 1) (wrote : memory after ≡ set (memory before) (before .held) c) where
+    (held : after .held ≡ before .held + 1) (wrote : memory after ≡ set (memory before) (before .held) c)
+    (same : name (after .cells) ≡ name (before .cells)) where
   long : places after ≡ places before
   long = ap length wrote ∙ length-set (memory before) (before .held) c
 
@@ -69,7 +73,7 @@ module _ (side : ℕ) (before after : Lent) (c : Cell) (sheet : Kept side before
       old k h ne = ap (on side) (getD-set-other (memory before) (before .held) k c origin ne) ∙ sheet .placed k (omega arith)
 
   pub put-does : Does side before after (Put c) (Ok (after .held))
-  put-does = does-accepted side (after .held) before after (Put c) fine new (sym (length-take-le (after .held) (memory after) (put-kept .within))) long (λ idle. absurd (true≢false idle)) (ap (drop (max (before .held) (after .held))) wrote ∙ drop-set-lt (max (before .held) (after .held)) (memory before) (before .held) c (omega arith))
+  put-does = does-accepted side (after .held) before after (Put c) fine new (sym (length-take-le (after .held) (memory after) (put-kept .within))) same long (λ idle. absurd (true≢false idle)) (ap (drop (max (before .held) (after .held))) wrote ∙ drop-set-lt (max (before .held) (after .held)) (memory before) (before .held) c (omega arith))
     where
       room-left : ltb (length (hits before)) (room (places before)) ≡ true
       room-left = lt-ltb _ _ (omega (arith, length-take-le (before .held) (memory before) (sheet .within)))
@@ -87,7 +91,8 @@ module _ (side : ℕ) (before after : Lent) (c : Cell) (sheet : Kept side before
 module _ (side place : ℕ) (before after : Lent) (c : Cell) (sheet : Kept side before) (on-it : on side c ≡ true)
     (inside : place < before .held) (is : same c (getD (memory before) place origin) ≡ true)
     (held : after .held + 1 ≡ before .held)
-    (wrote : memory after ≡ set (memory before) place (getD (memory before) (after .held) origin)) where
+    (wrote : memory after ≡ set (memory before) place (getD (memory before) (after .held) origin))
+    (same-memory : name (after .cells) ≡ name (before .cells)) where
   left : places after ≡ places before
   left = ap length wrote ∙ length-set (memory before) place (getD (memory before) (after .held) origin)
 
@@ -110,7 +115,7 @@ module _ (side place : ℕ) (before after : Lent) (c : Cell) (sheet : Kept side 
           ∙ sheet .placed k (omega arith)
 
   pub take-does : Does side before after (TakeBack c) (Ok (after .held))
-  take-does = does-accepted side (after .held) before after (TakeBack c) fine new (sym (length-take-le (after .held) (memory after) (take-kept .within))) left (λ idle. absurd (true≢false idle)) (ap (drop (max (before .held) (after .held))) wrote ∙ drop-set-lt (max (before .held) (after .held)) (memory before) place (getD (memory before) (after .held) origin) (omega arith))
+  take-does = does-accepted side (after .held) before after (TakeBack c) fine new (sym (length-take-le (after .held) (memory after) (take-kept .within))) same-memory left (λ idle. absurd (true≢false idle)) (ap (drop (max (before .held) (after .held))) wrote ∙ drop-set-lt (max (before .held) (after .held)) (memory before) place (getD (memory before) (after .held) origin) (omega arith))
     where
       some : ltb 0 (count c (hits before)) ≡ true
       some = lt-ltb _ _ (some-counted (memory before) c place (before .held) (sheet .within) inside is)

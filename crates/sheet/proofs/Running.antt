@@ -5,6 +5,7 @@ use mathlib.Core.List.{List, [], _∷_, _++_, map}
 use Prim.Native.Nat.{ℕ, _+_, _<_, _≤_}
 use native.Mathlib.Omega.{arith}
 use lib.ListN.{length, take, set, getD, length-map}
+use denote.Ref.{name}
 use lib.Seq.{take-all, map-set, set-getD}
 use Rattle.std.proofs.shelf.Lists.{take-more, take-more-set, getD-map, map-push}
 use Rattle.std.proofs.shelf.Sums.{folded-push}
@@ -25,6 +26,7 @@ pub record Ran (on-grid : Grid) (start : Lent) (journal : List Entry) (i : ℕ) 
   pub answers : map answer-of (take i written) ≡ answers-from (on-grid .side) (places start) (tally (hits start)) (take i (map call-of journal))
   pub calls : map call-of written ≡ map call-of journal
   pub left : none-writes (take i written) ≡ true → memory now′ ≡ memory start
+  pub lent : name (now′ .cells) ≡ name (start .cells)
   pub places : places now′ ≡ places start
   pub grid : grid′ ≡ on-grid
 
@@ -43,7 +45,7 @@ none-writes-push (x ∷ es) e idle =
 
 -- before the first call
 pub ran-none : (grid : Grid) (start : Lent) (journal : List Entry) → Ran grid start journal 0 grid start journal
-ran-none grid start journal = record { counts = refl; answers = refl; calls = refl; left = λ idle. refl; places = refl; grid = refl }
+ran-none grid start journal = record { counts = refl; answers = refl; calls = refl; left = λ idle. refl; lent = refl; places = refl; grid = refl }
 
 -- the call at place i is made, and its answer written beside it
 module _ {grid grid′ : Grid} {start before : Lent} {journal written : List Entry} {i : ℕ}
@@ -80,6 +82,7 @@ module _ {grid grid′ : Grid} {start before : Lent} {journal written : List Ent
         ∙ set-getD (map call-of written) i (call-of d)
         ∙ ran .calls;
     left = λ idle. still (none-writes-push (take i written) entry (ap none-writes (sym (take-more-set written i entry inside)) ∙ idle));
+    lent = does .lent ∙ ran .lent;
     places = does .as-many ∙ ran .places;
     grid = same-grid ∙ ran .grid;
   }

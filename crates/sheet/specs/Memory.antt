@@ -4,7 +4,7 @@ use mathlib.Core.Bool.{Bool, true, false}
 use mathlib.Core.List.{List}
 use Prim.Native.Nat.{ℕ, _<_, max}
 use lib.ListN.{length, take, drop, getD}
-use denote.Ref.{now}
+use denote.Ref.{now, name}
 use Rattle.std.specs.Results.{isOk}
 use Rattle.std.specs.declared.option.Option.{Option}
 use Rattle.std.specs.declared.option.Option.the-variants.{Some, None}
@@ -49,7 +49,8 @@ writes Held r = false
 pub record Does (side : ℕ) (before after : Lent) (call : Call) (r : Result ℕ Refusal) : Type 0 where
   pub answered : r ≡ answer side (places before) (tally (hits before)) call
   pub counted : tally (hits after) ≡ step side (places before) (tally (hits before)) call
-  -- as many places as before
+  -- the same memory is lent, with as many places
+  pub lent : name (after .cells) ≡ name (before .cells)
   pub as-many : places after ≡ places before
   -- a call that does not write leaves every place as it was
   pub left : writes call r ≡ false → memory after ≡ memory before

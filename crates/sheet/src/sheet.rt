@@ -4,7 +4,7 @@ ghost use Prim.Native.Nat.{ℕ, _≤_, _<_, _+_};
 ghost use lib.ListN.{length, getD, set};
 ghost use mathlib.Core.List.{[]};
 ghost use mathlib.Core.Bool.{true};
-ghost use denote.Ref.{now};
+ghost use denote.Ref.{now, name};
 ghost use Rattle.grid.specs.Cells.{on, origin};
 ghost use Rattle.sheet.specs.Counts.{room};
 ghost use Rattle.sheet.specs.Memory.{memory, places, hits, Finds};
@@ -59,6 +59,7 @@ impl Lent<'_> {
         requires { ⌜ now self .held < places (now self) ⌝ }
         ensures held { λ _. ⌜ now (self .exit) .held ≡ now (self .entry) .held + 1 ⌝ }
         ensures memory { λ _. ⌜ memory (now (self .exit)) ≡ set (memory (now (self .entry))) (now (self .entry) .held) cell ⌝ }
+        ensures lent { λ _. ⌜ name (now (self .exit) .cells) ≡ name (now (self .entry) .cells) ⌝ }
     {
         self.cells[self.held] = cell;
         self.held += 1;
@@ -69,6 +70,7 @@ impl Lent<'_> {
         requires { ⌜ place < now self .held ⌝ ∗ ⌜ now self .held ≤ places (now self) ⌝ }
         ensures held { λ _. ⌜ now (self .exit) .held + 1 ≡ now (self .entry) .held ⌝ }
         ensures memory { λ _. ⌜ memory (now (self .exit)) ≡ set (memory (now (self .entry))) place (getD (memory (now (self .entry))) (now (self .exit) .held) origin) ⌝ }
+        ensures lent { λ _. ⌜ name (now (self .exit) .cells) ≡ name (now (self .entry) .cells) ⌝ }
     {
         self.held -= 1;
         self.cells[place] = self.cells[self.held];
@@ -80,6 +82,7 @@ impl<'a> Sheet<'a> {
     pub fn new(grid: Grid, cells: &'a mut [Cell]) -> Sheet<'a>
         ensures hits { λ r. ⌜ hits (r .lent) ≡ [] ⌝ }
         ensures memory { λ r. ⌜ memory (r .lent) ≡ now (cells .entry) ⌝ }
+        ensures lent { λ r. ⌜ name (r .lent .cells) ≡ name (cells .entry) ⌝ }
         ensures grid { λ r. ⌜ r .grid ≡ grid ⌝ }
     {
         Sheet {

@@ -15,13 +15,13 @@ free c = omega (arith, c .room .ensures)
 
 pub ghost-self : need.ghost-self
 ghost-self c =
-    let k = put-kept _ _ (c .add .last .self) _ (sheet c) (sym (c .if-not-has .ensures tt)) (free c) (c .add .ensures .held) (c .add .ensures .memory) in
+    let k = put-kept _ _ (c .add .last .self) _ (sheet c) (sym (c .if-not-has .ensures tt)) (free c) (c .add .ensures .held) (c .add .ensures .memory) (c .add .ensures .lent) in
     (k .within, (k .most, (k .placed, tt)))
 
 pub returns : need.returns
 returns c =
     let a = need.at·returns c .After-add in
     record {
-      does = put-does _ _ _ _ (sheet a) (sym (c .if-not-has .ensures tt)) (free a) (c .add .ensures .held) (c .add .ensures .memory);
+      does = put-does _ _ _ _ (sheet a) (sym (c .if-not-has .ensures tt)) (free a) (c .add .ensures .held) (c .add .ensures .memory) (c .add .ensures .lent);
       grid = refl;
     }

@@ -14,4 +14,4 @@ pub returns : need.returns
 returns c =
     let ran = c .loop-i .inv in
     let end = c .loop-i-test .left in
-    record { counts = counts-all ran end; answers = answers-all ran end; calls = ran .calls; left = left-all ran end; places = ran .places; grid = ran .grid }
+    record { counts = counts-all ran end; answers = answers-all ran end; calls = ran .calls; left = left-all ran end; lent = ran .lent; places = ran .places; grid = ran .grid }

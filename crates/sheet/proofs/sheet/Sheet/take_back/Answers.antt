@@ -16,6 +16,6 @@ returns c =
     let a = need.at·returns c .After-find in
     let found = c .in-Some .ensures tt in
     record {
-      does = take-does _ (c .in-Some .place) _ _ _ (sheet a) (sym (c .if-not-has .ensures tt)) (found .0) (found .1) (c .close-up .ensures .held) (c .close-up .ensures .memory);
+      does = take-does _ (c .in-Some .place) _ _ _ (sheet a) (sym (c .if-not-has .ensures tt)) (found .0) (found .1) (c .close-up .ensures .held) (c .close-up .ensures .memory) (c .close-up .ensures .lent);
       grid = refl;
     }

@@ -1,32 +1,30 @@
 //! Replies to the lines of an input.
 ghost use mathlib.Core.Path.{_≡_};
 ghost use mathlib.Core.List.{List, [], _++_};
-ghost use lib.ListN.{take};
-ghost use Rattle.std.specs.Of.String.{string-bytes};
+ghost use Prim.Native.Nat.{_≤_, _+_, _*_, _^_};
+ghost use lib.ListN.{length, take};
 ghost use Rattle.std.specs.Options.{mapped};
 ghost use Rattle.std.specs.Results.{okPart};
-ghost use Rattle.std.specs.Vec.{made};
 ghost use Rattle.sheet.specs.Counts.{counts, counts-from};
 ghost use Rattle.sheet.specs.Memory.{hits, tally, places};
 ghost use Rattle.sheet.specs.declared.call.Call.{Call};
 ghost use Rattle.line.specs.Pieces.{lines as lines-of};
-ghost use Rattle.book.specs.Session.{calls, letter-of, reply, outcome-before, outcome-on, opens, on-grid, from-start, behind, texts, session};
 ghost use Rattle.book.specs.Outcomes.{grid-outcome, side-of};
+ghost use Rattle.book.specs.Pages.{laid, Part, Room, Wrote};
+ghost use Rattle.book.specs.Session.{calls, reply, outcome-before, outcome-on, opens, on-grid, from-start, behind, texts, session};
+use super::Page;
 use crate::Refused;
 use crate::Reply;
 use crate::Told;
 use crate::refusal::RefusedFromLine;
 use crate::refusal::RefusedFromSheet;
 use crate::refusal::RefusedFromSide;
-use crate::reply::ReplyDisplay;
 use grid::Cell;
 use grid::Grid;
 use line::Command;
 use line::Lines;
 use line::NotUnderstood;
 use sheet::Sheet;
-use std::alloc::Global;
-use std::fmt;
 
 /// The most bytes of an input that are read.
 pub const MOST_INPUT: usize = 65_536;
@@ -40,7 +38,7 @@ fn reply_to(line: Result<Command, NotUnderstood>, outcome: Result<Told, Refused>
 {
     let letter = match line {
         Ok(command) => command.letter(),
-        Err(_) => '?',
+        Err(_) => b'?',
     };
     Reply { letter, outcome }
 }
@@ -86,49 +84,54 @@ fn perform(sheet: &mut Sheet, line: Result<Command, NotUnderstood>) -> Result<To
 }
 
 /// Replies to the lines up to one that opens a grid, and gives that grid; none where the lines end before.
-fn open(lines: &mut Lines, out: &mut String) -> Result<Option<Grid>, fmt::Error>
-    ensures { λ r. ⌜ made r (λ o. string-bytes (now (out .exit)) ++ texts (behind (mapped side-of o) [] (lines-of (now (now (lines .exit) .rest)))) ≡ string-bytes (now (out .entry)) ++ texts (from-start (lines-of (now (now (lines .entry) .rest))))) ⌝ }
+fn open(lines: &mut Lines, page: &mut Page) -> Option<Grid>
+    requires { ⌜ Room (now page) (lines-of (now (now lines .rest))) ⌝ }
+    ensures replied { λ r. ⌜ Part (now (page .entry)) (texts (from-start (lines-of (now (now (lines .entry) .rest))))) (texts (behind (mapped side-of r) [] (lines-of (now (now (lines .exit) .rest))))) (now (page .exit)) ⌝ }
+    ensures room { λ _. ⌜ Room (now (page .exit)) (lines-of (now (now (lines .exit) .rest))) ⌝ }
 {
     while let Some(line) = lines.next() {
         let asked = asked_grid(line);
-        out.writeln(reply_to(line, grid_outcome(asked)))?;
+        page.reply(reply_to(line, grid_outcome(asked)));
         if let Ok(grid) = asked {
-            return Ok(Some(grid));
+            return Some(grid);
         }
     }
-    Ok(None)
+    None
 }
 
 /// Replies to lines on a sheet.
-fn serve(sheet: &mut Sheet, lines: &mut Lines, out: &mut String) -> fmt::Result
-    requires { ⌜ places (now sheet .lent) ≡ 1024 ⌝ }
-    ensures { λ r. ⌜ made r (λ _. (past : List Call) → tally (hits (now (sheet .entry) .lent)) ≡ counts (now (sheet .entry) .grid .side) 1024 past → string-bytes (now (out .exit)) ≡ string-bytes (now (out .entry)) ++ texts (on-grid (now (sheet .entry) .grid .side) past (lines-of (now (now (lines .entry) .rest))))) ⌝ }
+fn serve(sheet: &mut Sheet, lines: &mut Lines, page: &mut Page)
+    requires places { ⌜ places (now sheet .lent) ≡ 1024 ⌝ }
+    requires room { ⌜ Room (now page) (lines-of (now (now lines .rest))) ⌝ }
+    ensures { λ _. ⌜ ((past : List Call) → tally (hits (now (sheet .entry) .lent)) ≡ counts (now (sheet .entry) .grid .side) 1024 past → Wrote (now (page .entry)) (texts (on-grid (now (sheet .entry) .grid .side) past (lines-of (now (now (lines .entry) .rest))))) (now (page .exit))) ⌝ }
 {
     while let Some(line) = lines.next() {
         let outcome = perform(sheet, line);
-        out.writeln(reply_to(line, outcome))?;
+        page.reply(reply_to(line, outcome));
     }
-    Ok(())
 }
 
 /// The part of an input that is read: 65,536 bytes at most.
 fn read_part(input: &[u8]) -> &[u8]
-    ensures { λ r. ⌜ now r ≡ take 65536 (now (input .entry)) ⌝ }
+    ensures part { λ r. ⌜ now r ≡ take 65536 (now (input .entry)) ⌝ }
+    ensures few { λ r. ⌜ length (now r) ≤ 65536 ⌝ }
 {
     &input[0..input.len().min(MOST_INPUT)]
 }
 
-/// The replies to an input, a line each.
-pub fn replies(heap: Global, input: &[u8]) -> Result<String, fmt::Error>
-    ensures { λ r. ⌜ made r (λ s. string-bytes s ≡ session (now (input .entry))) ⌝ }
+/// Replies to an input, a line to each of its lines, and tells how many bytes the replies have. They are written to
+/// `out` from its front on, as far as it reaches; what stands behind them stays.
+pub fn replies(input: &[u8], out: &mut [u8]) -> usize
+    ensures len { λ r. ⌜ r ≡ length (session (now (input .entry))) ⌝ }
+    ensures bytes { λ _. ⌜ now (out .exit) ≡ laid 0 (session (now (input .entry))) (now (out .entry)) ⌝ }
 {
     let mut lines = Lines::new(read_part(input));
-    let mut out = String::new(heap);
-    let Some(grid) = open(&mut lines, &mut out)? else {
-        return Ok(out);
+    let mut page = Page { bytes: out, len: 0 };
+    let Some(grid) = open(&mut lines, &mut page) else {
+        return page.len();
     };
     let mut cells = [Cell { x: 0, y: 0 }; PLACES];
     let mut sheet = Sheet::new(grid, &mut cells);
-    serve(&mut sheet, &mut lines, &mut out)?;
-    Ok(out)
+    serve(&mut sheet, &mut lines, &mut page);
+    page.len()
 }
