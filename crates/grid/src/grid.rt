@@ -31,6 +31,13 @@ impl Grid {
         Ok(Grid { side })
     }
 
+    /// How many cells the grid has in a row and in a column.
+    pub fn side(self) -> u32
+        ensures { λ r. ⌜ r ≡ self .side ⌝ }
+    {
+        self.side
+    }
+
     /// Whether the cell lies on the grid.
     pub fn has(self, cell: Cell) -> bool
         ensures { λ r. ⌜ r ≡ on (self .side) cell ⌝ }
