@@ -1,22 +1,21 @@
 -- The ring code by its rings: which cells have which numbers. Assumes nothing.
 use mathlib.Core.Path.{_≡_, refl, sym, ap, subst, _∙_}
 use mathlib.Core.Bool.{true, false}
-use mathlib.Core.Logic.{_⊎_, inl, inr, ⊎-elim}
-use Prim.Native.Nat.{ℕ, _+_, _-_, _*_, _<_, _≤_, max}
+use mathlib.Core.Logic.{inl, inr}
+use Prim.Native.Nat.{ℕ, _+_, _-_, _*_, _<_, _≤_}
 use native.Mathlib.Nat.{mul-le-mul}
 use native.Mathlib.Omega.{arith}
-use lib.Dec.{eqb, ltb, leb, lit<}
+use lib.Dec.{eqb, lit<}
 use lib.IntN.{pos}
-use Rattle.std.proofs.shelf.Tests.{cases-lt, cases-order, and-parts, ltb-true, leb-true, ne-eqb, cond-false}
-use Rattle.std.proofs.shelf.Ways.{tells}
+use Rattle.std.proofs.shelf.Tests.{cases-lt, cases-order, ne-eqb}
 use Rattle.grid.specs.Cells.{on}
 use Rattle.grid.specs.Sides.{allowed}
 use Rattle.grid.specs.declared.cell.Cell.{Cell}
 use Rattle.cellcode.specs.Codes.{CodeLaws}
 use Rattle.cellcode.specs.Ring.{along, distance, step, nat, first, numbered, ring}
-use Rattle.cellcode.specs.Spiral.{far, InRing, across, down, by-side}
+use Rattle.cellcode.specs.Spiral.{far, InRing, across, down}
 use Rattle.cellcode.proofs.Ons.{on-below, allowed-most}
-use Rattle.cellcode.proofs.Steps.{apart, Stands, stands, stands-step, stands-place, stands-far, place-stands}
+use Rattle.cellcode.proofs.Steps.{apart, stands, stands-step, stands-place, stands-far, place-stands}
 
 -- a ring ends where the next begins, 8d numbers on
 width : (d : ℕ) → 1 ≤ d → (2 * d + 1) * (2 * d + 1) ≡ first d + 8 * d

@@ -1,10 +1,10 @@
 -- The row code: a number tells the row and the column. Assumes nothing.
 use mathlib.Core.Path.{_≡_, ap, sym, _∙_}
 use mathlib.Core.Bool.{true}
-use Prim.Native.Nat.{ℕ, _+_, _*_, _/_, _<_, _≤_}
+use Prim.Native.Nat.{ℕ, _*_, _/_, _<_, _≤_}
 use native.Mathlib.Nat.{mul-le-mul}
 use native.Mathlib.Omega.{arith}
-use Rattle.std.proofs.shelf.Bits.{div-mul-add, mod-mul-add}
+use Rattle.std.proofs.shelf.Bits.{div-mul-add}
 use Rattle.grid.specs.Cells.{on}
 use Rattle.grid.specs.Sides.{allowed}
 use Rattle.grid.specs.declared.cell.Cell.{Cell}

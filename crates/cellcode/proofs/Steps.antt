@@ -1,18 +1,17 @@
 -- The steps of the ring code in natural numbers: a ring d around a parent at column a and row b, and a cell at column x
 -- and row y of it. Assumes nothing.
-use mathlib.Core.Path.{_≡_, refl, sym, ap, _∙_}
-use mathlib.Core.Bool.{Bool, true, false, _&&_, cond}
-use mathlib.Core.Logic.{_⊎_, inl, inr, ⊎-elim}
+use mathlib.Core.Path.{_≡_}
+use mathlib.Core.Logic.{inl, inr}
 use Prim.Native.Nat.{ℕ, _+_, _-_, _*_, _<_, _≤_, max}
 use native.Mathlib.Omega.{arith}
 use lib.Dec.{eqb, ltb}
-use lib.IntN.{ℤ, pos, negℤ, natAbs, _+ℤ_, _-ℤ_, _*ℤ_}
-use lib.Signed.{leZ, ltZ}
+use lib.IntN.{pos, negℤ, natAbs, _+ℤ_, _-ℤ_, _*ℤ_}
+use lib.Signed.{ltZ}
 use Rattle.std.proofs.shelf.Signed.{ints}
 use Rattle.std.proofs.shelf.Tests.{cases-eq, cases-lt}
 use Rattle.std.proofs.shelf.Ways.{tells}
-use Rattle.cellcode.specs.Ring.{along, distance, is, step}
-use Rattle.cellcode.specs.Spiral.{across, down, by-side}
+use Rattle.cellcode.specs.Ring.{along, is, step}
+use Rattle.cellcode.specs.Spiral.{across, down}
 
 -- the distance of two numbers, as the code computes it
 pub apart : (a b : ℕ) → natAbs (along a b) ≡ (a - b) + (b - a)

@@ -82,8 +82,9 @@ fn step_of(d: u32, parent: Cell, cell: Cell) -> u32
     7 * d + cell.x - parent.x
 }
 
-/// The place of the step in the square of the rings up to d: the right column down to the corner, the top row back to
-/// the left, the left column up again, the last row to the right. No branch, since no guess would foretell the side.
+/// The place of the step in the square of the rings up to d, by its column and its row: up the right column, along the
+/// top row to the left, down the left column, along the bottom row to the right. There is no branch, since none could be
+/// foretold.
 fn place_of(d: u64, step: u64) -> (u64, u64)
     requires { ⌜ d ≤ 2147483648 ⌝ }
     ensures across { λ r. ⌜ r .0 ≡ across d step ⌝ }
@@ -100,7 +101,7 @@ fn place_of(d: u64, step: u64) -> (u64, u64)
     (across, down)
 }
 
-/// The coordinate at a place of that square, around the parent's coordinate, if it is on the grid.
+/// The coordinate of the cell at that place around the parent's coordinate `from`, if the grid has it.
 fn coordinate(grid: Grid, from: u32, d: u64, place: u64) -> Option<u32>
     requires { ⌜ d ≤ 2147483648 ⌝ ∗ ⌜ place < 2 ^ 63 ⌝ }
     ensures { λ r. ⌜ Coordinate (grid .side) from d place r ⌝ }

@@ -18,8 +18,9 @@ pub fn ring_of(number: u64) -> u64
     (plain_root(number) + 1) / 2
 }
 
-/// The square root, rounded down, in two steps of Heron's rule from a line through the powers of 4. It was right for
-/// every number that was tried, and no proof relies on that.
+/// The square root, rounded down, by two of Heron's steps. Between 4^k and 4^(k + 1) they start on the line
+/// number / (3 · 2^k) + 2^k · 45 / 64, which is within 4 % of the root. Tried at both ends of each root below 2^21 this is
+/// exact; no proof relies on that.
 fn near_root(number: u64) -> u64
     requires { ⌜ number < 4398046511104 ⌝ }
     ensures { λ r. ⌜ r ≤ 2097152 ⌝ }
@@ -36,7 +37,7 @@ fn near_root(number: u64) -> u64
     }
 }
 
-/// The square root, rounded down, bit by bit. It is apart, so that its loop does not stand in the usual way.
+/// The square root, rounded down, bit by bit: the fallback.
 fn plain_root(number: u64) -> u64
     ensures root { λ r. ⌜ r * r ≤ number ⌝ }
     ensures next { λ r. ⌜ number < (r + 1) * (r + 1) ⌝ }

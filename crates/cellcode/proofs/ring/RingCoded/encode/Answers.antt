@@ -1,6 +1,5 @@
-use mathlib.Core.Path.{_≡_, sym}
+use mathlib.Core.Path.{sym}
 use native.Mathlib.Omega.{arith}
-use Rattle.cellcode.specs.Ring.{first}
 use Rattle.cellcode.proofs.Rings.{ring-none, ring-step}
 use Rattle.cellcode.proofs.ring.RingCoded.encode.Needs as need
 
