@@ -18,7 +18,8 @@ distance dx dy = max (natAbs dx) (natAbs dy)
 abbrev pub is : ℤ → ℤ → Bool
 is a b = leZ a b && leZ b a
 
--- which step along ring d leads to that cell, counted from 0: the sides dx = d, dy = -d, dx = -d and dy = d in turn
+-- which step along ring d leads to that cell, counted from 0, by the side of the ring that it lies on:
+-- dx = d with dy > -d; dy = -d with dx > -d; dx = -d with dy < d; and what is left, dy = d with dx < d
 unfoldable pub step : ℤ → ℤ → ℤ → ℤ
 step d dx dy =
     cond (is dx d && ltZ (negℤ d) dy) (d -ℤ dy)
@@ -31,7 +32,7 @@ abbrev pub nat : ℤ → ℕ
 nat (pos n) = n
 nat (negsuc n) = 0
 
--- the first number of ring d
+-- the first number of ring d, where d is not 0; the parent itself, ring 0, has the number 0
 abbrev pub first : ℕ → ℕ
 first d = (2 * d - 1) * (2 * d - 1)
 
@@ -41,5 +42,6 @@ numbered dx dy =
     let d = distance dx dy in
     cond (eqb d 0) 0 (first d + nat (step (pos d) dx dy))
 
+-- the number of a cell from its parent, on a grid of any side
 unfoldable pub ring : ℕ → Cell → Cell → ℕ
 ring side parent cell = numbered (along (parent .x) (cell .x)) (along (parent .y) (cell .y))

@@ -18,14 +18,15 @@ pub record InRing (n d : ℕ) : Type 0 where
   pub from : first d ≤ n
   pub to : n < (2 * d + 1) * (2 * d + 1)
 
--- the first of four numbers for the first 2d steps, and so on for the 2d steps of each other side
+-- one of four numbers by the side that step s of ring d is on, with 2d steps a side
 abbrev pub by-side : ℕ → ℕ → ℕ → ℕ → ℕ → ℕ → ℕ
 by-side d s a b c e = cond (ltb s (2 * d)) a (cond (ltb s (4 * d)) b (cond (ltb s (6 * d)) c e))
 
--- the place of step s in the square of the rings up to d, from its corner at dx = -d and dy = -d
+-- the column of step s in the square of the rings up to d, from its corner at dx = -d and dy = -d
 unfoldable pub across : ℕ → ℕ → ℕ
 across d s = by-side d s (2 * d) (4 * d - s) 0 (s - 6 * d)
 
+-- and the row
 unfoldable pub down : ℕ → ℕ → ℕ
 down d s = by-side d s (2 * d - s) 0 (s - 4 * d) (2 * d)
 

@@ -83,8 +83,8 @@ fn step_of(d: u32, parent: Cell, cell: Cell) -> u32
 }
 
 /// The place of the step in the square of the rings up to d, by its column and its row: up the right column, along the
-/// top row to the left, down the left column, along the bottom row to the right. There is no branch, since none could be
-/// foretold.
+/// top row to the left, down the left column, along the bottom row to the right. There is no branch, since the side of
+/// the next number cannot be predicted.
 fn place_of(d: u64, step: u64) -> (u64, u64)
     requires { ⌜ d ≤ 2147483648 ⌝ }
     ensures across { λ r. ⌜ r .0 ≡ across d step ⌝ }
