@@ -1,6 +1,6 @@
 use native.Mathlib.Omega.{arith}
 use Rattle.cellcode.proofs.Roots.{ring-of-root}
-use Rattle.cellcode.proofs.ring.root.ring_of.Needs as need
+use Rattle.cellcode.proofs.ring.ring_of.Needs as need
 
 pub returns-then-number-root : need.returns-then-number-root
 returns-then-number-root c = record {
