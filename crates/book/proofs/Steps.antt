@@ -107,8 +107,8 @@ serving-none grid start input page places room = record {
   made = [];
   tallied = refl;
   wrote = λ earlier e.
-    subst (λ past. Part page (texts (on-grid (grid .side) earlier (lines input))) (texts (on-grid (grid .side) past (lines input))) page) (sym (append-nil earlier))
-    (part-none page (texts (on-grid (grid .side) earlier (lines input))));
+      subst (λ past. Part page (texts (on-grid (grid .side) earlier (lines input))) (texts (on-grid (grid .side) past (lines input))) page) (sym (append-nil earlier))
+      (part-none page (texts (on-grid (grid .side) earlier (lines input))));
 }
 
 -- a line is read and done on the sheet, and its reply is written
@@ -120,7 +120,6 @@ module _ {on grid′ grid″ : Grid} {start before after : Lent} {input left lef
     (called : tally (hits after) ≡ counts-from (grid′ .side) 1024 (tally (hits before)) (calls line))
     (places′ : places after ≡ 1024) (same : grid″ ≡ grid′)
     (replied : Wrote page′ (reply-line (reply line outcome)) page″) (short : page″ .len ≤ page′ .len + 64) where
-
   pub serving-more : Serving on start input page grid″ after left′ page″
   serving-more = record {
     room = room-less page′ page″ (lines left) (lines left′) (serving .room) (fewer-lines (lines left) (lines left′) line read behind′) short;
@@ -129,15 +128,17 @@ module _ {on grid′ grid″ : Grid} {start before after : Lent} {input left lef
     made = serving .made ++ calls line;
     tallied = called ∙ (λ i. counts-from (serving .grid i .side) 1024 (serving .tallied i) (calls line)) ∙ sym (counts-after (on .side) 1024 (tally (hits start)) (serving .made) (calls line));
     wrote = λ earlier e.
-      part-more (reply-line (reply line outcome)) (texts (on-grid side (earlier ++ (serving .made ++ calls line)) (lines left′)))
-      (subst (λ rs. Part page (texts (on-grid side earlier (lines input))) (texts rs) page′) (next earlier e) (serving .wrote earlier e)) replied;
+        part-more (reply-line (reply line outcome)) (texts (on-grid side (earlier ++ (serving .made ++ calls line)) (lines left′)))
+        (subst (λ rs. Part page (texts (on-grid side earlier (lines input))) (texts rs) page′) (next earlier e) (serving .wrote earlier e)) replied;
   }
     where
       side : ℕ
       side = on .side
+
       -- the counts at which the line was done
       now : (earlier : List Call) → tally (hits start) ≡ counts side 1024 earlier → tally (hits before) ≡ counts side 1024 (earlier ++ serving .made)
       now earlier e = serving .tallied ∙ ap (λ t. counts-from side 1024 t (serving .made)) e ∙ sym (counts-after side 1024 none earlier (serving .made))
+
       next : (earlier : List Call) → tally (hits start) ≡ counts side 1024 earlier → on-grid side (earlier ++ serving .made) (lines left) ≡ reply line outcome ∷ on-grid side (earlier ++ (serving .made ++ calls line)) (lines left′)
       next earlier e =
           grid-step (lines left) (lines left′) line read behind′ side (earlier ++ serving .made)

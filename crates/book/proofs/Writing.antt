@@ -21,9 +21,9 @@ pub wrote-then : {before middle after : Page} (a b : List ℕ) → Wrote before 
 wrote-then {before} a b first second = record {
   len = omega (arith, first .len, second .len, length-append a b);
   bytes =
-    second .bytes
-    ∙ (λ i. laid (first .len i) b (first .bytes i))
-    ∙ sym (laid-append (before .len) a b (now (before .bytes)));
+      second .bytes
+      ∙ (λ i. laid (first .len i) b (first .bytes i))
+      ∙ sym (laid-append (before .len) a b (now (before .bytes)));
   lent = second .lent ∙ first .lent;
 }
 

@@ -97,10 +97,12 @@ few-lines (b ∷ bs) = ⊎-elim (ends (few-lines bs)) (goes-on (few-lines bs)) (
     ends few e =
         let more : length (lines (b ∷ bs)) ≡ suc (length (lines bs)) = ap (λ a. length (lines (a ∷ bs))) e in
         omega arith
+
     longer : (piece : List ℕ) (others : List (List ℕ)) → length (without-empty-end (b ∷ piece) others) ≤ suc (length (without-empty-end piece others))
     longer piece [] = omega arith
     longer [] (next ∷ others) = omega arith
     longer (x ∷ piece) (next ∷ others) = omega arith
+
     goes-on : length (lines bs) ≤ length bs → (b ≡ 10 → ⊥) → length (lines (b ∷ bs)) ≤ suc (length bs)
     goes-on few other =
         let whole : length (lines (b ∷ bs)) ≡ length (without-empty-end (b ∷ pieces 10 bs .0) (pieces 10 bs .1)) = ap (λ p. length (without-empty-end (p .0) (p .1))) (grows b bs other) in

@@ -92,6 +92,7 @@ module _ {grid grid′ : Grid} {start before : Lent} {journal written : List Ent
 
       still : (none-writes (take i written) ≡ true) × (writes (call-of (getD written i d)) r ≡ false) → memory after ≡ memory start
       still idle = does .left (idle .1) ∙ ran .left (idle .0)
+
       answered : r ≡ answer (grid .side) (places start) (counts-from (grid .side) (places start) (tally (hits start)) (take i (map call-of journal))) asked
       answered = does .answered ∙ (λ j. answer (ran .grid j .side) (ran .places j) (ran .counts j) asked)
 

@@ -25,7 +25,10 @@ impl Entry {
     pub fn new(call: Call) -> Entry
         ensures { λ r. ⌜ r .call ≡ call ⌝ }
     {
-        Entry { call, answer: Ok(0) }
+        Entry {
+            call,
+            answer: Ok(0),
+        }
     }
 }
 

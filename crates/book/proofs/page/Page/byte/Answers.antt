@@ -9,11 +9,11 @@ pub returns : need.returns
 returns c =
     let page = c .args .self .now in
     elim (c .if-self .came) [
-      then-self w ↦ record { len = ap (λ p. p .len + 1) (w .self-is); bytes = ap (λ p. p .bytes .now) (w .self-is); lent = ap (λ p. p .bytes .name) (w .self-is) }
-    | else-self w ↦
-        record {
-          len = ap (λ p. p .len + 1) (w .self-is);
-          bytes = ap (λ p. p .bytes .now) (w .self-is) ∙ sym (set-past (page .bytes .now) (page .len) (c .args .byte) (w .if-self .left));
-          lent = ap (λ p. p .bytes .name) (w .self-is);
-        }
+      | then-self w ↦ record { len = ap (λ p. p .len + 1) (w .self-is); bytes = ap (λ p. p .bytes .now) (w .self-is); lent = ap (λ p. p .bytes .name) (w .self-is) }
+      | else-self w ↦
+          record {
+            len = ap (λ p. p .len + 1) (w .self-is);
+            bytes = ap (λ p. p .bytes .now) (w .self-is) ∙ sym (set-past (page .bytes .now) (page .len) (c .args .byte) (w .if-self .left));
+            lent = ap (λ p. p .bytes .name) (w .self-is);
+          }
     ]

@@ -31,8 +31,7 @@ returns-in-Ok c =
 pub loop-line-again : need.loop-line-again
 loop-line-again c =
     let a = need.at·loop-line-again c .After-reply in
-    let told = c .in-Some .ensures tt in
-    (
+    let told = c .in-Some .ensures tt in (
       room-less (c .loop-line .page) (c .reply .last .self) _ _ (c .loop-line .inv .0) (fewer a) (c .reply .ensures .short),
       start-reply _ _ _ (told .command) (told .behind) _ _ (c .loop-line .inv .1) (replied a) (c .in-rest-asked .ensures tt .side) (c .reply .ensures .wrote),
     )
