@@ -1,5 +1,5 @@
 //! Times of the proved library beside plain Rust, in one run. Machines are noisy: the ratio is the figure to read.
-use crate::plain::{self, Cell, Code};
+use crate::plain::codes::{self as plain, Cell, Code};
 use crate::random::Random;
 use crate::store;
 use std::hint::black_box;

@@ -1,5 +1,5 @@
 //! Cell codes: every small case, and random and adversarial ones.
-use crate::plain::{self, Cell, Code, MOST_SIDE};
+use crate::plain::codes::{self as plain, Cell, Code, MOST_SIDE};
 use crate::random::Random;
 use crate::store;
 

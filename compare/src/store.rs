@@ -1,6 +1,6 @@
 //! The proved library through its exported functions. Nothing checks these declarations against the Rattle sources, so
 //! they are few, and each is wrapped by a safe function at once.
-use crate::plain::{Cell, Code};
+use crate::plain::codes::{Cell, Code};
 
 unsafe extern "C" {
     fn spot_ring_encode(side: u32, px: u32, py: u32, x: u32, y: u32) -> u64;
