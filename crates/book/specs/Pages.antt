@@ -6,7 +6,7 @@ use lib.ListN.{length, set}
 use denote.Ref.{now, name}
 use Rattle.book.specs.declared.page.Page.{Page}
 
--- bytes with a text written over them from a place on, as far as they reach
+-- bytes with a text written over them from a place on, as far as they reach: past their end nothing is set
 abbrev pub laid : ℕ → List ℕ → List ℕ → List ℕ
 laid at [] bytes = bytes
 laid at (b ∷ text) bytes = laid (at + 1) text (set bytes at b)

@@ -62,7 +62,7 @@ calls (Ok (TakeBack c)) = call.TakeBack c ∷ []
 calls (Ok Clear) = call.Clear ∷ []
 calls (Err e) = []
 
--- the letter of a line's command, and `?` where there is none
+-- the letter of a line's command, and `?` where there is none (the text of a reply shows no letter there)
 abbrev pub letter-of : Result Command NotUnderstood → ℕ
 letter-of (Ok command) = opening command
 letter-of (Err e) = 63

@@ -3,7 +3,7 @@ mod page;
 mod refusal;
 mod reply;
 
-pub use page::session::MOST_INPUT;
+pub use page::session::most_input;
 pub use page::session::replies;
 pub use refusal::Refused;
 pub use reply::Reply;

@@ -1,7 +1,7 @@
 -- Cell codes: what each owes, and what encoding and decoding give.
 use mathlib.Core.Path.{_≡_}
 use mathlib.Core.Bool.{true, false, _&&_}
-use Prim.Native.Nat.{ℕ, _<_}
+use Prim.Native.Nat.{ℕ, _^_, _<_}
 use Rattle.std.specs.declared.option.Option.{Option}
 use Rattle.std.specs.declared.option.Option.the-variants.{Some, None}
 use Rattle.std.specs.declared.result.Result.{Result}
@@ -14,7 +14,7 @@ use Rattle.cellcode.specs.declared.refusal.OffGrid.{OffGrid}
 -- what a code owes on every grid that there is, from every parent on it
 pub record CodeLaws (code : ℕ → Cell → Cell → ℕ) : Type 0 where
   -- each number is below 2^42
-  pub below : (side : ℕ) (parent cell : Cell) → allowed side ≡ true → on side parent ≡ true → on side cell ≡ true → code side parent cell < 4398046511104
+  pub below : (side : ℕ) (parent cell : Cell) → allowed side ≡ true → on side parent ≡ true → on side cell ≡ true → code side parent cell < 2 ^ 42
   -- no two cells have the same number
   pub distinct : (side : ℕ) (parent cell other : Cell) → allowed side ≡ true → on side parent ≡ true → on side cell ≡ true → on side other ≡ true → code side parent cell ≡ code side parent other → cell ≡ other
 
@@ -33,3 +33,7 @@ Decodes code side parent n None = (cell : Cell) → on side parent ≡ true → 
 abbrev pub RoundTrip : ℕ → Cell → Cell → Result (Option Cell) OffGrid → Type 0
 RoundTrip side parent cell (Ok found) = (on side parent ≡ true) × (on side cell ≡ true) × (found ≡ Some cell)
 RoundTrip side parent cell (Err e) = (on side parent && on side cell) ≡ false
+
+-- whatever number encoding the cell gives, whatever decoding that number gives is the cell
+abbrev pub ComesBack : (ℕ → Cell → Cell → ℕ) → ℕ → Cell → Cell → Type 0
+ComesBack code side parent cell = (n : ℕ) (found : Option Cell) → Encoded code side parent cell (Ok n) → Decodes code side parent n found → found ≡ Some cell

@@ -1,5 +1,5 @@
 //! What code over any cell code can rely on.
-ghost use Rattle.cellcode.specs.Codes.{RoundTrip};
+ghost use Rattle.cellcode.specs.Codes.{RoundTrip, ComesBack};
 use crate::CellCode;
 use crate::OffGrid;
 use grid::Cell;
@@ -12,7 +12,8 @@ pub fn round_trip<C: CellCode>(
     parent: Cell,
     cell: Cell,
 ) -> Result<Option<Cell>, OffGrid>
-    ensures { λ r. ⌜ RoundTrip (grid .side) parent cell r ⌝ }
+    ensures result { λ r. ⌜ RoundTrip (grid .side) parent cell r ⌝ }
+    ensures law { λ _. ⌜ ComesBack (C·CellCode .code (now (codes .entry))) (grid .side) parent cell ⌝ }
 {
     let number = codes.encode(grid, parent, cell)?;
     Ok(codes.decode(grid, parent, number))

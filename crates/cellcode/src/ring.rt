@@ -83,9 +83,9 @@ fn step_of(d: u32, parent: Cell, cell: Cell) -> u32
     7 * d + cell.x - parent.x
 }
 
-/// The place of the step in the square of the rings up to d, by its column and its row: up the right column, along the
-/// top row to the left, down the left column, along the bottom row to the right. There is no branch, since the side of
-/// the next number cannot be predicted.
+/// The place of the step in the square of the rings up to d, by its column and its row: along the last column to lower
+/// rows, along the first row to lower columns, along the first column to higher rows, along the last row to higher
+/// columns. There is no branch, since the side of the next number cannot be predicted.
 fn place_of(d: u64, step: u64) -> (u64, u64)
     requires { ⌜ d ≤ 2147483648 ⌝ }
     ensures across { λ r. ⌜ r .0 ≡ across d step ⌝ }

@@ -5,7 +5,7 @@ use crate::OffGrid;
 use grid::Cell;
 use grid::Grid;
 
-/// Numbers the cells of a grid row by row. The parent does not matter.
+/// Numbers the cells of a grid row by row, the same from every parent on the grid.
 #[derive(Clone, Copy, Debug)]
 pub struct RowCode;
 

@@ -9,7 +9,7 @@ use crate::Cell;
 use crate::SideRefused;
 
 /// The longest side of a grid.
-pub const MOST_SIDE: u32 = 1_048_576;
+const MOST_SIDE: u32 = 1_048_576;
 
 /// A square grid of cells, with coordinates from 0 to side - 1.
 #[derive(Clone, Copy, Debug)]

@@ -6,6 +6,5 @@ mod refusal;
 pub use cell::Cell;
 pub use cell::CellDebug;
 pub use grid::Grid;
-pub use grid::MOST_SIDE;
 pub use refusal::SideRefused;
 pub use refusal::SideRefusedDebug;

@@ -9,5 +9,4 @@ pub use refusal::Refusal;
 pub use run::Entry;
 pub use run::run_new;
 pub use sheet::Lent;
-pub use sheet::MOST_HITS;
 pub use sheet::Sheet;

@@ -14,7 +14,7 @@ use grid::Grid;
 mod calls;
 
 /// The most hits that any sheet holds.
-pub const MOST_HITS: usize = 1_048_576;
+const MOST_HITS: usize = 1_048_576;
 
 /// Cells that a caller lends. The first `held` of them are hits, and the content of the others is of no account.
 #[derive(Drop)]

@@ -1,5 +1,5 @@
 //! Reads commands from standard input and writes a reply to each.
-use book::MOST_INPUT;
+use book::most_input;
 use book::replies;
 use std::error::AnyError;
 use std::io::Read;
@@ -9,7 +9,9 @@ use std::io::Write;
 fn run(rt: &LibcRuntime) -> Result<(), AnyError> {
     let heap = rt.alloc();
     let mut input = Vec::new(heap);
-    rt.stdin().take(MOST_INPUT as u64).read_to_end(&mut input)?;
+    rt.stdin()
+        .take(most_input() as u64)
+        .read_to_end(&mut input)?;
     // once to count the bytes of the replies, and once to write them
     let len = replies(input.as_slice(), &mut []);
     let mut out = vec![in heap; 0u8; len]?;

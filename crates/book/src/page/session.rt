@@ -27,7 +27,11 @@ use line::NotUnderstood;
 use sheet::Sheet;
 
 /// The most bytes of an input that are read.
-pub const MOST_INPUT: usize = 65_536;
+pub fn most_input() -> usize
+    ensures { λ r. ⌜ r ≡ 65536 ⌝ }
+{
+    65_536
+}
 
 /// The places of the program's sheet.
 const PLACES: usize = 1024;
@@ -116,7 +120,7 @@ fn read_part(input: &[u8]) -> &[u8]
     ensures part { λ r. ⌜ now r ≡ take 65536 (now (input .entry)) ⌝ }
     ensures few { λ r. ⌜ length (now r) ≤ 65536 ⌝ }
 {
-    &input[0..input.len().min(MOST_INPUT)]
+    &input[0..input.len().min(most_input())]
 }
 
 /// Replies to an input, a line to each of its lines, and tells how many bytes the replies have. They are written to

@@ -1,5 +1,5 @@
-use mathlib.Core.Path.{ap, _∙_}
-use Prim.Native.Nat.{_-_}
+use mathlib.Core.Path.{_≡_, ap, _∙_}
+use Prim.Native.Nat.{_-_, min}
 use native.Mathlib.Omega.{arith}
 use lib.ListN.{length, take, length-take}
 use Rattle.book.proofs.Steps.{take-min}
@@ -7,5 +7,9 @@ use Rattle.book.proofs.page.session.read_part.Needs as need
 
 pub returns : need.returns
 returns c =
-    let part = ap (λ n. take (n - 0) (c .args .input .now)) (c .min .ensures) ∙ take-min 65536 (c .args .input .now) in
-    record { part = part; few = omega (arith, length-take (c .min .result - 0) (c .args .input .now), c .min .ensures) }
+    let input = c .args .input .now in
+    let count = c .min .ensures ∙ ap (min (length input)) (c .most-input .ensures) in
+    record {
+      part = ap (λ n. take (n - 0) input) count ∙ take-min 65536 input;
+      few = omega (arith, length-take (c .min .result - 0) input, count);
+    }
