@@ -25,7 +25,7 @@ use Rattle.sheet.specs.declared.refusal.Refusal.the-variants.{OffGrid, Full, N
 use Rattle.sheet.specs.declared.sheet.Lent.{Lent}
 use Rattle.sheet.proofs.Tallies.{tally-push, tally-closed, none-counted, some-counted}
 
-pub does-accepted : (side n : ℕ) (before after : Lent) (call : Call) → refusal side (places before) (tally (hits before)) call ≡ None → tally (hits after) ≡ accepted (tally (hits before)) call → n ≡ length (hits after) → name (after .cells) ≡ name (before .cells) → places after ≡ places before → (writes call (Ok n) ≡ false → memory after ≡ memory before) → drop (max (before .held) (after .held)) (memory after) ≡ drop (max (before .held) (after .held)) (memory before) → Does side before after call (Ok n)
+pub does-accepted : (side n : ℕ) (before after : Lent) (call : Call) → refusal side (places before) (tally (hits before)) call ≡ None → tally (hits after) ≡ accepted (tally (hits before)) call → n ≡ length (hits after) → name (after .cells) ≡ name (before .cells) → places after ≡ places before → (writes call (Ok n) ≡ false → memory after ≡ memory before) → drop (max (length (hits before)) (length (hits after))) (memory after) ≡ drop (max (length (hits before)) (length (hits after))) (memory before) → Does side before after call (Ok n)
 does-accepted side n before after call fine new held same kept left behind = record {
   answered = ap Ok (held ∙ ap (λ t. t .held) new) ∙ ap (λ o. unless o (Ok (accepted (tally (hits before)) call .held)) Err) (sym fine);
   counted = new ∙ ap (λ o. unless o (accepted (tally (hits before)) call) (λ e. tally (hits before))) (sym fine);
@@ -73,8 +73,11 @@ module _ (side : ℕ) (before after : Lent) (c : Cell) (sheet : Kept side before
       old k h ne = ap (on side) (getD-set-other (memory before) (before .held) k c origin ne) ∙ sheet .placed k (omega arith)
 
   pub put-does : Does side before after (Put c) (Ok (after .held))
-  put-does = does-accepted side (after .held) before after (Put c) fine new (sym (length-take-le (after .held) (memory after) (put-kept .within))) same long (λ idle. absurd (true≢false idle)) (ap (drop (max (before .held) (after .held))) wrote ∙ drop-set-lt (max (before .held) (after .held)) (memory before) (before .held) c (omega arith))
+  put-does = does-accepted side (after .held) before after (Put c) fine new (sym (length-take-le (after .held) (memory after) (put-kept .within))) same long (λ idle. absurd (true≢false idle)) (ap (drop most-held) wrote ∙ drop-set-lt most-held (memory before) (before .held) c (omega (arith, length-take-le (after .held) (memory after) (put-kept .within))))
     where
+      most-held : ℕ
+      most-held = max (length (hits before)) (length (hits after))
+
       room-left : ltb (length (hits before)) (room (places before)) ≡ true
       room-left = lt-ltb _ _ (omega (arith, length-take-le (before .held) (memory before) (sheet .within)))
 
@@ -115,8 +118,11 @@ module _ (side place : ℕ) (before after : Lent) (c : Cell) (sheet : Kept side 
           ∙ sheet .placed k (omega arith)
 
   pub take-does : Does side before after (TakeBack c) (Ok (after .held))
-  take-does = does-accepted side (after .held) before after (TakeBack c) fine new (sym (length-take-le (after .held) (memory after) (take-kept .within))) same-memory left (λ idle. absurd (true≢false idle)) (ap (drop (max (before .held) (after .held))) wrote ∙ drop-set-lt (max (before .held) (after .held)) (memory before) place (getD (memory before) (after .held) origin) (omega arith))
+  take-does = does-accepted side (after .held) before after (TakeBack c) fine new (sym (length-take-le (after .held) (memory after) (take-kept .within))) same-memory left (λ idle. absurd (true≢false idle)) (ap (drop most-held) wrote ∙ drop-set-lt most-held (memory before) place (getD (memory before) (after .held) origin) (omega (arith, length-take-le (before .held) (memory before) (sheet .within))))
     where
+      most-held : ℕ
+      most-held = max (length (hits before)) (length (hits after))
+
       some : ltb 0 (count c (hits before)) ≡ true
       some = lt-ltb _ _ (some-counted (memory before) c place (before .held) (sheet .within) inside is)
 

@@ -1,18 +1,19 @@
 -- A run that has come part of the way. Assumes nothing.
-use mathlib.Core.Path.{_≡_, refl, sym, ap, _∙_}
+use mathlib.Core.Path.{_≡_, refl, sym, ap, subst, _∙_}
 use mathlib.Core.Bool.{true, false, not}
 use mathlib.Core.List.{List, [], _∷_, _++_, map}
-use Prim.Native.Nat.{ℕ, _+_, _<_, _≤_}
+use Prim.Native.Nat.{ℕ, _+_, _-_, _<_, _≤_, max}
 use native.Mathlib.Omega.{arith}
-use lib.ListN.{length, take, set, getD, length-map}
+use lib.ListN.{length, take, drop, set, getD, length-map}
 use denote.Ref.{name}
-use lib.Seq.{take-all, map-set, set-getD}
+use lib.Seq.{take-all, drop-drop, map-set, set-getD}
 use Rattle.std.proofs.shelf.Lists.{take-more, take-more-set, getD-map, map-push}
 use Rattle.std.proofs.shelf.Sums.{folded-push}
 use Rattle.std.proofs.shelf.Tests.{not-true, and-parts, and-from}
 use Rattle.std.specs.declared.result.Result.{Result}
+use Rattle.grid.specs.declared.cell.Cell.{Cell}
 use Rattle.grid.specs.declared.grid.Grid.{Grid}
-use Rattle.sheet.specs.Counts.{Counts, counts-from, answers-from, answer, step}
+use Rattle.sheet.specs.Counts.{Counts, counts-from, peak, answers-from, answer, step}
 use Rattle.sheet.specs.Memory.{memory, places, hits, tally, writes, Does}
 use Rattle.sheet.specs.Runs.{call-of, answer-of, none-writes}
 use Rattle.sheet.specs.declared.call.Call.{Call}
@@ -26,6 +27,7 @@ pub record Ran (on-grid : Grid) (start : Lent) (journal : List Entry) (i : ℕ) 
   pub answers : map answer-of (take i written) ≡ answers-from (on-grid .side) (places start) (tally (hits start)) (take i (map call-of journal))
   pub calls : map call-of written ≡ map call-of journal
   pub left : none-writes (take i written) ≡ true → memory now′ ≡ memory start
+  pub behind : drop (peak (on-grid .side) (places start) (tally (hits start)) (take i (map call-of journal))) (memory now′) ≡ drop (peak (on-grid .side) (places start) (tally (hits start)) (take i (map call-of journal))) (memory start)
   pub lent : name (now′ .cells) ≡ name (start .cells)
   pub places : places now′ ≡ places start
   pub grid : grid′ ≡ on-grid
@@ -34,6 +36,33 @@ pub record Ran (on-grid : Grid) (start : Lent) (journal : List Entry) (i : ℕ) 
 answers-push : (side places : ℕ) (t : Counts) (calls : List Call) (call : Call) → answers-from side places t (calls ++ call ∷ []) ≡ answers-from side places t calls ++ answer side places (counts-from side places t calls) call ∷ []
 answers-push side places t [] call = refl
 answers-push side places t (c ∷ calls) call = ap (λ l. answer side places t c ∷ l) (answers-push side places (step side places t c) calls call)
+
+-- the most hits held, with one call more
+peak-push : (side places : ℕ) (t : Counts) (calls : List Call) (call : Call) → peak side places t (calls ++ call ∷ []) ≡ max (peak side places t calls) (counts-from side places t (calls ++ call ∷ []) .held)
+peak-push side places t [] call = refl
+peak-push side places t (c ∷ calls) call = omega (arith, peak-push side places (step side places t c) calls call)
+
+-- what is held at the end is not more
+peak-end : (side places : ℕ) (t : Counts) (calls : List Call) → counts-from side places t calls .held ≤ peak side places t calls
+peak-end side places t [] = omega arith
+peak-end side places t (c ∷ calls) = omega (arith, peak-end side places (step side places t c) calls)
+
+-- lists that agree from a place on agree from a later one on
+drop-further : {X : Type 0} (m n : ℕ) (xs ys : List X) → m ≤ n → drop m xs ≡ drop m ys → drop n xs ≡ drop n ys
+drop-further m n xs ys h same =
+    let split : n ≡ m + (n - m) = omega arith in
+    ap (λ k. drop k xs) split
+    ∙ sym (drop-drop (n - m) m xs)
+    ∙ ap (drop (n - m)) same
+    ∙ drop-drop (n - m) m ys
+    ∙ ap (λ k. drop k ys) (sym split)
+
+-- places behind the most hits held stay, with one call more
+peak-more : (side places : ℕ) (t : Counts) (calls : List Call) (call : Call) (start before after : List Cell) (m n : ℕ) → m ≡ counts-from side places t calls .held → n ≡ counts-from side places t (calls ++ call ∷ []) .held → drop (peak side places t calls) before ≡ drop (peak side places t calls) start → drop (max m n) after ≡ drop (max m n) before → drop (peak side places t (calls ++ call ∷ [])) after ≡ drop (peak side places t (calls ++ call ∷ [])) start
+peak-more side places t calls call start before after m n held-before held-after old new =
+    let top = peak-push side places t calls call in
+    let end = peak-end side places t calls in
+    drop-further (max m n) _ after before (omega arith) new ∙ drop-further (peak side places t calls) _ before start (omega arith) old
 
 -- one entry more
 none-writes-push : (es : List Entry) (e : Entry) → none-writes (es ++ e ∷ []) ≡ true → (none-writes es ≡ true) × (writes (e .call) (e .answer) ≡ false)
@@ -45,7 +74,7 @@ none-writes-push (x ∷ es) e idle =
 
 -- before the first call
 pub ran-none : (grid : Grid) (start : Lent) (journal : List Entry) → Ran grid start journal 0 grid start journal
-ran-none grid start journal = record { counts = refl; answers = refl; calls = refl; left = λ idle. refl; lent = refl; places = refl; grid = refl }
+ran-none grid start journal = record { counts = refl; answers = refl; calls = refl; left = λ idle. refl; behind = refl; lent = refl; places = refl; grid = refl }
 
 -- the call at place i is made, and its answer written beside it
 module _ {grid grid′ : Grid} {start before : Lent} {journal written : List Entry} {i : ℕ}
@@ -82,6 +111,9 @@ module _ {grid grid′ : Grid} {start before : Lent} {journal written : List Ent
         ∙ set-getD (map call-of written) i (call-of d)
         ∙ ran .calls;
     left = λ idle. still (none-writes-push (take i written) entry (ap none-writes (sym (take-more-set written i entry inside)) ∙ idle));
+    behind =
+        subst (λ cs. drop (peak (grid .side) (places start) (tally (hits start)) cs) (memory after) ≡ drop (peak (grid .side) (places start) (tally (hits start)) cs) (memory start)) (sym one-more)
+        (peak-more (grid .side) (places start) (tally (hits start)) (take i (map call-of journal)) asked (memory start) (memory before) (memory after) _ _ (ap (λ t. t .held) (ran .counts)) (ap (λ t. t .held) counted) (ran .behind) (does .behind));
     lent = does .lent ∙ ran .lent;
     places = does .as-many ∙ ran .places;
     grid = same-grid ∙ ran .grid;
@@ -89,6 +121,12 @@ module _ {grid grid′ : Grid} {start before : Lent} {journal written : List Ent
     where
       entry : Entry
       entry = record { call = call-of (getD written i d); answer = r }
+
+      counted : tally (hits after) ≡ counts-from (grid .side) (places start) (tally (hits start)) (take i (map call-of journal) ++ asked ∷ [])
+      counted =
+          does .counted
+          ∙ (λ j. step (ran .grid j .side) (ran .places j) (ran .counts j) asked)
+          ∙ sym (folded-push (step (grid .side) (places start)) (tally (hits start)) (take i (map call-of journal)) asked)
 
       still : (none-writes (take i written) ≡ true) × (writes (call-of (getD written i d)) r ≡ false) → memory after ≡ memory start
       still idle = does .left (idle .1) ∙ ran .left (idle .0)
@@ -107,6 +145,9 @@ module _ {grid grid′ : Grid} {start end : Lent} {journal written : List Entry}
 
   all-written : take i written ≡ written
   all-written = take-all i written (omega (arith, sym (length-map written call-of) ∙ ap length (ran .calls) ∙ length-map journal call-of))
+
+  pub behind-all : drop (peak (grid .side) (places start) (tally (hits start)) (map call-of journal)) (memory end) ≡ drop (peak (grid .side) (places start) (tally (hits start)) (map call-of journal)) (memory start)
+  behind-all = subst (λ cs. drop (peak (grid .side) (places start) (tally (hits start)) cs) (memory end) ≡ drop (peak (grid .side) (places start) (tally (hits start)) cs) (memory start)) all-calls (ran .behind)
 
   pub left-all : none-writes written ≡ true → memory end ≡ memory start
   left-all idle = ran .left (ap none-writes all-written ∙ idle)

@@ -2,7 +2,7 @@
 -- places and the calls alone.
 use mathlib.Core.Bool.{Bool, cond}
 use mathlib.Core.List.{List, [], _∷_}
-use Prim.Native.Nat.{ℕ, _+_, _-_, min}
+use Prim.Native.Nat.{ℕ, _+_, _-_, min, max}
 use lib.Dec.{ltb}
 use Rattle.std.specs.Iters.{folded}
 use Rattle.std.specs.declared.option.Option.{Option}
@@ -71,6 +71,11 @@ counts-from side places t calls = folded (step side places) t calls
 -- the counts after a list of calls on a new sheet
 abbrev pub counts : ℕ → ℕ → List Call → Counts
 counts side places calls = counts-from side places none calls
+
+-- the most hits held at any time of a run, its start and its end among them
+abbrev pub peak : ℕ → ℕ → Counts → List Call → ℕ
+peak side places t [] = t .held
+peak side places t (call ∷ calls) = max (t .held) (peak side places (step side places t call) calls)
 
 -- what each call of the list answers, by the counts at that point
 abbrev pub answers-from : ℕ → ℕ → Counts → List Call → List (Result ℕ Refusal)

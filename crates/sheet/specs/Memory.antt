@@ -55,4 +55,4 @@ pub record Does (side : ℕ) (before after : Lent) (call : Call) (r : Result ℕ
   -- a call that does not write leaves every place as it was
   pub left : writes call r ≡ false → memory after ≡ memory before
   -- and any call those places that hold no hit before or after it
-  pub behind : drop (max (before .held) (after .held)) (memory after) ≡ drop (max (before .held) (after .held)) (memory before)
+  pub behind : drop (max (length (hits before)) (length (hits after))) (memory after) ≡ drop (max (length (hits before)) (length (hits after))) (memory before)

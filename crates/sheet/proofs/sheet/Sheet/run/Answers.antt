@@ -1,5 +1,5 @@
 use native.Mathlib.Omega.{arith}
-use Rattle.sheet.proofs.Running.{ran-none, ran-more, counts-all, answers-all, left-all}
+use Rattle.sheet.proofs.Running.{ran-none, ran-more, counts-all, answers-all, left-all, behind-all}
 use Rattle.sheet.proofs.sheet.Sheet.run.Needs as need
 
 pub loop-i-holds : need.loop-i-holds
@@ -14,4 +14,4 @@ pub returns : need.returns
 returns c =
     let ran = c .loop-i .inv in
     let end = c .loop-i-test .left in
-    record { counts = counts-all ran end; answers = answers-all ran end; calls = ran .calls; left = left-all ran end; lent = ran .lent; places = ran .places; grid = ran .grid }
+    record { counts = counts-all ran end; answers = answers-all ran end; calls = ran .calls; left = left-all ran end; behind = behind-all ran end; lent = ran .lent; places = ran .places; grid = ran .grid }
