@@ -1,0 +1,1 @@
+//! Numbers of so many bits, packed into bytes.
