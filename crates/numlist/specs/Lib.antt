@@ -1,0 +1,4 @@
+pub mod Lists
+pub mod Fixed
+pub mod Parts
+pub mod Cuts
