@@ -7,19 +7,16 @@ use Prim.Native.Nat.{ℕ, zero, suc, _+_, _-_, _*_, _/_, _%_, _^_, _<_, _≤_}
 use native.Mathlib.Nat.{mod-lt, add-comm, zero-add, le-div-iff-mul-le}
 use native.Mathlib.Omega.{arith}
 use lib.Dec.{leb, lit<}
-use lib.ListN.{length, take, length-map}
+use lib.ListN.{length, length-map}
 use lib.Pow.{pow-pos, pow-add, pow-mono, shr-lt, shr-shr}
 use Rattle.std.specs.shelf.Lists.{All, kept-by, sum}
-use Rattle.std.specs.Iters.{counting}
 use Rattle.std.proofs.shelf.Bits.{le-div}
-use Rattle.std.proofs.shelf.Elements.{all-map, all-kept-by, all-weaker, kept-by-passes, all-from-getD}
-use Rattle.std.proofs.shelf.Sums.{sum-map, length-kept-by, sumBy-take-le, sumBy-le}
-use Rattle.std.proofs.shelf.Counted.{length-map-counting}
+use Rattle.std.proofs.shelf.Elements.{all-map, all-kept-by, all-weaker, kept-by-passes}
+use Rattle.std.proofs.shelf.Sums.{sum-map, length-kept-by}
 use Rattle.std.proofs.shelf.Tests.{cases-bool, cond-both, leb-true, leb-false, lt-leb}
 use Rattle.std.proofs.shelf.Ways.{tells}
 use Rattle.bits.specs.Packing.{Narrow}
-use Rattle.numlist.specs.Lists.{most}
-use Rattle.numlist.specs.Parts.{lows, marked, marks, parts, above, entries, directory}
+use Rattle.numlist.specs.Parts.{lows, marked, marks, parts, above}
 
 module _ (b : ℕ) where
   pub sum-marks : (xs : List ℕ) → sum (marks b xs) ≡ length (parts b xs)

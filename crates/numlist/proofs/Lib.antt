@@ -1,3 +1,9 @@
 pub mod Examples
 pub mod Highs
 pub mod Weaving
+pub mod Verdicts
+pub mod Sections
+pub mod FixedSound
+pub mod Strings
+pub mod Directories
+pub mod CutStrings
