@@ -13,7 +13,7 @@ use Rattle.bits.proofs.Digits.{length-digits, narrow-digits, value-digits, dig
 
 -- a number cut at a digit: a front and what is behind it
 module _ (w k : ℕ) (xs : List ℕ) (within : k ≤ length xs) (narrow : Narrow w xs) where
-  front-narrow : value w (take k xs) < 2 ^ (w * k)
+  pub front-narrow : value w (take k xs) < 2 ^ (w * k)
   front-narrow =
       let h = value-narrow w (take k xs) (all-take (λ x. x < 2 ^ w) k xs narrow) in
       rw (length-take-le k xs within) at h
@@ -87,10 +87,10 @@ module _ (w m : ℕ) (bytes : List ℕ) (narrow : Narrow 8 bytes) (within : room
   packed-unpacked filled =
       let front = take (room w m) bytes in
       let value-of : value w (unpacked w m bytes) ≡ value 8 front =
-          value-digits w m (value 8 bytes)
-          ∙ sym (mod-fewer (value 8 bytes) (bits-within w m))
-          ∙ ap (λ n. n % 2 ^ (w * m)) (sym (value-take 8 (room w m) bytes within narrow))
-          ∙ mod-eq-of-lt filled
+      value-digits w m (value 8 bytes)
+      ∙ sym (mod-fewer (value 8 bytes) (bits-within w m))
+      ∙ ap (λ n. n % 2 ^ (w * m)) (sym (value-take 8 (room w m) bytes within narrow))
+      ∙ mod-eq-of-lt filled
       in
       let e = digits-value 8 front (all-take (λ x. x < 2 ^ 8) (room w m) bytes narrow) in
       rw (length-unpacked w m bytes, value-of) (rw (length-take-le (room w m) bytes within) at e)

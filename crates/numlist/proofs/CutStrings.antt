@@ -5,31 +5,24 @@ use mathlib.Core.List.{List, _++_, append-assoc}
 use Prim.Native.Nat.{ℕ, _+_, _*_, _%_, _^_, _<_, _≤_}
 use native.Mathlib.Nat.{mul-le-mul-right}
 use native.Mathlib.Omega.{arith}
-use lib.Dec.{ltb}
 use lib.ListN.{length, drop, length-append, length-map}
 use lib.Seq.{drop-drop}
-use Rattle.std.specs.shelf.Lists.{All, sum}
-use Rattle.std.specs.Orderings.{Decides}
-use Rattle.std.specs.shelf.Text.{sameBytes}
+use Rattle.std.specs.shelf.Lists.{sum}
 use Rattle.std.specs.declared.result.Result.the-variants.{Ok}
 use Rattle.std.proofs.shelf.Elements.{all-append}
 use Rattle.std.proofs.shelf.Equals.{sameBytes-decides}
 use Rattle.std.proofs.shelf.Tests.{le-leb, and-from}
-use Rattle.std.proofs.shelf.Ways.{decides-by-and, decides-ltb}
 use Rattle.bits.specs.Packing.{Narrow, room, packed, unpacked}
 use Rattle.bits.proofs.Packings.{narrow-packed}
 use Rattle.numlist.specs.Lists.{Meaning, Sound, most}
 use Rattle.numlist.specs.Parts.{lows, marked, marks, parts, entries, directory, weave}
 use Rattle.numlist.specs.Fixed.{filled}
 use Rattle.numlist.specs.Cuts.{marks-at, directory-at, below-at, marks-in, directory-in, highs-in, nonzero, verdict-of, cut}
+use Rattle.numlist.proofs.CutVerdicts.{nonzero-decides}
 use Rattle.numlist.proofs.Directories.{length-directory, sum-narrow, narrow-directory}
 use Rattle.numlist.proofs.Highs.{sum-marks, narrow-lows, narrow-marks, narrow-parts, positive-parts}
 use Rattle.numlist.proofs.Sections.{section-read, section-filled, section-long, section-behind}
 use Rattle.numlist.proofs.Weaving.{weave-back}
-
-pub nonzero-decides : (hs : List ℕ) → Decides (nonzero hs) (All (λ h. 0 < h) hs)
-unfolding nonzero
-nonzero-decides hs = decides-by-and (λ h. ltb 0 h) (λ h. 0 < h) nonzero (λ h. decides-ltb 0 h) refl (λ _ _. refl) hs
 
 -- bytes begin with the three sections of a cut, which show these low parts, marks and directory, and then go on with rest
 pub record Shows (b m : ℕ) (ls ms ds rest bytes : List ℕ) : Type 0 where
@@ -41,15 +34,15 @@ pub record Shows (b m : ℕ) (ls ms ds rest bytes : List ℕ) : Type 0 where
   pub enough : below-at b m ≤ length bytes
 
 pub sections-long :
-  (b m : ℕ) (ls ms ds rest : List ℕ) → length ls ≡ m → length ms ≡ m → length ds ≡ entries m
-  → length (packed b ls ++ (packed 1 ms ++ (packed 32 ds ++ rest))) ≡ below-at b m + length rest
+    (b m : ℕ) (ls ms ds rest : List ℕ) → length ls ≡ m → length ms ≡ m → length ds ≡ entries m
+    → length (packed b ls ++ (packed 1 ms ++ (packed 32 ds ++ rest))) ≡ below-at b m + length rest
 sections-long b m ls ms ds rest many-lows many-marks many-entries =
     simp length-append
-      (omega (arith, section-long b m ls many-lows, section-long 1 m ms many-marks, section-long 32 (entries m) ds many-entries))
+    (omega (arith, section-long b m ls many-lows, section-long 1 m ms many-marks, section-long 32 (entries m) ds many-entries))
 
 module _
-  (b m : ℕ) (ls ms ds rest : List ℕ) (many-lows : length ls ≡ m) (many-marks : length ms ≡ m)
-  (many-entries : length ds ≡ entries m) (narrow-ls : Narrow b ls) (narrow-ms : Narrow 1 ms) (narrow-ds : Narrow 32 ds) where
+    (b m : ℕ) (ls ms ds rest : List ℕ) (many-lows : length ls ≡ m) (many-marks : length ms ≡ m)
+    (many-entries : length ds ≡ entries m) (narrow-ls : Narrow b ls) (narrow-ms : Narrow 1 ms) (narrow-ds : Narrow 32 ds) where
   from-directory : List ℕ
   from-directory = packed 32 ds ++ rest
 
@@ -91,7 +84,8 @@ module _
     its-directory = ap (unpacked 32 (entries m)) behind-marks ∙ section-read 32 (entries m) ds rest many-entries narrow-ds;
     fills = and-from (filled b m from-lows) (filled 1 m (drop (marks-at b m) from-lows)) (section-filled b m ls from-marks many-lows narrow-ls) fills-marks;
     behind = behind-directory;
-    enough = omega (arith, sections-long b m ls ms ds rest many-lows many-marks many-entries) }
+    enough = omega (arith, sections-long b m ls ms ds rest many-lows many-marks many-entries);
+  }
 
 -- the string of numbers
 module _ (b : ℕ) (L : Meaning) (sound : Sound L) (xs : List ℕ) (narrow : Narrow (b + L .reach) xs) (few : length xs ≤ most) where
@@ -113,8 +107,8 @@ module _ (b : ℕ) (L : Meaning) (sound : Sound L) (xs : List ℕ) (narrow : Nar
   shown : (rest : List ℕ) → Shows b (length xs) (lows b xs) (marks b xs) (directory (marks b xs)) (L .string (parts b xs) ++ rest) (cut b L .string xs ++ rest)
   shown rest =
       simp append-assoc
-        (shows b (length xs) (lows b xs) (marks b xs) (directory (marks b xs)) (L .string (parts b xs) ++ rest) many-lows many-marks
-          many-entries (narrow-lows b xs) (narrow-marks b xs) (narrow-directory (marks b xs) (narrow-marks b xs) (omega (arith, many-marks))))
+      (shows b (length xs) (lows b xs) (marks b xs) (directory (marks b xs)) (L .string (parts b xs) ++ rest) many-lows many-marks
+      many-entries (narrow-lows b xs) (narrow-marks b xs) (narrow-directory (marks b xs) (narrow-marks b xs) (omega (arith, many-marks))))
 
   highs-read : (rest : List ℕ) → highs-in b L (cut b L .string xs ++ rest) (length xs) ≡ parts b xs
   highs-read rest =
@@ -132,9 +126,9 @@ module _ (b : ℕ) (L : Meaning) (sound : Sound L) (xs : List ℕ) (narrow : Nar
       let enough = le-leb (below-at b (length xs)) (length whole) (s .enough) in
       let entries-same = sameBytes-decides (directory-in b whole (length xs)) (directory (marks-in b whole (length xs))) .1 (s .its-directory ∙ ap directory (sym (s .its-marks))) in
       let verdict-below : L .verdict (drop (below-at b (length xs)) whole) (sum (marks-in b whole (length xs))) ≡ Ok (length (L .string (parts b xs))) =
-          (λ i. L .verdict (s .behind i) (sum (s .its-marks i)))
-          ∙ ap (L .verdict (L .string (parts b xs) ++ rest)) (sum-marks b xs)
-          ∙ sound .accepts (parts b xs) rest (narrow-parts b (L .reach) xs narrow) (omega (arith, few-parts))
+      (λ i. L .verdict (s .behind i) (sum (s .its-marks i)))
+      ∙ ap (L .verdict (L .string (parts b xs) ++ rest)) (sum-marks b xs)
+      ∙ sound .accepts (parts b xs) rest (narrow-parts b (L .reach) xs narrow) (omega (arith, few-parts))
       in
       let no-zero : nonzero (highs-in b L whole (length xs)) ≡ true = ap nonzero (highs-read rest) ∙ nonzero-decides (parts b xs) .1 (positive-parts b xs) in
       rw (enough, s .fills, entries-same, verdict-below, no-zero) (ap Ok (sym cut-long))
@@ -152,5 +146,5 @@ module _ (b : ℕ) (L : Meaning) (sound : Sound L) (xs : List ℕ) (narrow : Nar
       let ds = packed 32 (directory (marks b xs)) in
       let hs = L .string (parts b xs) in
       all-append Byte (packed b (lows b xs)) (packed 1 (marks b xs) ++ (ds ++ hs)) (narrow-packed b (lows b xs))
-        (all-append Byte (packed 1 (marks b xs)) (ds ++ hs) (narrow-packed 1 (marks b xs))
-          (all-append Byte ds hs (narrow-packed 32 (directory (marks b xs))) (sound .bytes (parts b xs) (narrow-parts b (L .reach) xs narrow) (omega (arith, few-parts)))))
+      (all-append Byte (packed 1 (marks b xs)) (ds ++ hs) (narrow-packed 1 (marks b xs))
+      (all-append Byte ds hs (narrow-packed 32 (directory (marks b xs))) (sound .bytes (parts b xs) (narrow-parts b (L .reach) xs narrow) (omega (arith, few-parts)))))

@@ -25,8 +25,8 @@ sum-narrow ms narrow =
 pub narrow-directory : (ms : List ℕ) → Narrow 1 ms → length ms ≤ most → Narrow 32 (directory ms)
 narrow-directory ms narrow few =
     let entry : (g : ℕ) → sum (take (256 * g) ms) < 2 ^ 32 =
-        λ g. omega (arith, sumBy-take-le (λ x. x) ms (256 * g), sum-narrow ms narrow)
+    λ g. omega (arith, sumBy-take-le (λ x. x) ms (256 * g), sum-narrow ms narrow)
     in
     let places = counting 0 (entries (length ms)) in
     all-map (λ n. n < 2 ^ 32) (λ g. sum (take (256 * g) ms)) places
-      (all-from-getD (λ g. sum (take (256 * g) ms) < 2 ^ 32) places 0 (λ i h. entry (getD places i 0)))
+    (all-from-getD (λ g. sum (take (256 * g) ms) < 2 ^ 32) places 0 (λ i h. entry (getD places i 0)))

@@ -32,7 +32,8 @@ fixed-exactly w bytes m n narrow e =
       within = rw (sym all) within;
       count = length-unpacked w m bytes;
       narrow = narrow-unpacked w m bytes;
-      same = rw (sym all) (section-same w m bytes narrow within (q .0)) }
+      same = rw (sym all) (section-same w m bytes narrow within (q .0));
+    }
 
 pub fixed-sound : (w : ℕ) → 1 ≤ w → Sound (fixed w)
 fixed-sound w some = record {
@@ -40,4 +41,5 @@ fixed-sound w some = record {
   accepts = λ xs rest narrow few. fixed-accepts w xs rest narrow;
   exactly = λ bytes m n narrow few e. fixed-exactly w bytes m n narrow e;
   small = λ xs narrow few. rw (length-packed w xs) (omega arith);
-  bytes = λ xs narrow few. narrow-packed w xs }
+  bytes = λ xs narrow few. narrow-packed w xs;
+}

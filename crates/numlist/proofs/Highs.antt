@@ -37,15 +37,15 @@ module _ (b : ℕ) where
   narrow-parts r xs narrow =
       let high : (x : ℕ) → x < 2 ^ (b + r) → x / 2 ^ b < 2 ^ r = λ x h. shr-lt r b (rw (add-comm b r) at h) in
       all-map (λ h. h < 2 ^ r) (λ x. x / 2 ^ b) (kept-by (marked b) xs)
-        (all-kept-by (marked b) (λ x. x / 2 ^ b < 2 ^ r) xs (all-weaker (λ x. x < 2 ^ (b + r)) (λ x. x / 2 ^ b < 2 ^ r) high xs narrow))
+      (all-kept-by (marked b) (λ x. x / 2 ^ b < 2 ^ r) xs (all-weaker (λ x. x < 2 ^ (b + r)) (λ x. x / 2 ^ b < 2 ^ r) high xs narrow))
 
   pub positive-parts : (xs : List ℕ) → All (λ h. 0 < h) (parts b xs)
   positive-parts xs =
       let high : (x : ℕ) → marked b x ≡ true → 0 < x / 2 ^ b =
-          λ x e. let h = leb-true (2 ^ b) x e in le-div 1 x (2 ^ b) (pow-pos b) (omega arith)
+      λ x e. let h = leb-true (2 ^ b) x e in le-div 1 x (2 ^ b) (pow-pos b) (omega arith)
       in
       all-map (λ h. 0 < h) (λ x. x / 2 ^ b) (kept-by (marked b) xs)
-        (all-weaker (λ x. marked b x ≡ true) (λ x. 0 < x / 2 ^ b) high (kept-by (marked b) xs) (kept-by-passes (marked b) xs))
+      (all-weaker (λ x. marked b x ≡ true) (λ x. 0 < x / 2 ^ b) high (kept-by (marked b) xs) (kept-by-passes (marked b) xs))
 
 same-test : (a n c m : ℕ) → (a ≤ n → c ≤ m) → (c ≤ m → a ≤ n) → leb a n ≡ leb c m
 same-test a n c m there back = grind (arith, tells)
@@ -67,10 +67,12 @@ module _ (b k : ℕ) where
   parts-parts [] = refl
   parts-parts (x ∷ xs) =
       elim (cases-bool (marked k x)) [
-        inl e ↦ elim (cases-bool (marked (k + b) x)) [
-          inl f ↦ rw (e, marked-high x, f) (λ i. shr-shr x k b i ∷ parts-parts xs i)
-        | inr f ↦ rw (e, marked-high x, f) (parts-parts xs) ]
-      | inr e ↦ rw (e, marked-higher x e) (parts-parts xs) ]
+        | inl e ↦ elim (cases-bool (marked (k + b) x)) [
+          | inl f ↦ rw (e, marked-high x, f) (λ i. shr-shr x k b i ∷ parts-parts xs i)
+          | inr f ↦ rw (e, marked-high x, f) (parts-parts xs)
+        ]
+        | inr e ↦ rw (e, marked-higher x e) (parts-parts xs)
+      ]
 
 above-some : (k : ℕ) (xs : List ℕ) → 1 ≤ k → above k xs ≡ parts k xs
 above-some zero xs h = absurd (omega arith)

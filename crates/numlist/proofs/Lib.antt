@@ -7,3 +7,5 @@ pub mod FixedSound
 pub mod Strings
 pub mod Directories
 pub mod CutStrings
+pub mod CutVerdicts
+pub mod CutSound

@@ -21,11 +21,12 @@ module _ (b : ℕ) where
   weave-back [] = refl
   weave-back (x ∷ xs) =
       elim (cases-bool (marked b x)) [
-        inl e ↦ let head : x % 2 ^ b + 2 ^ b * (1 * (x / 2 ^ b)) ≡ x = omega (arith, split x b) in
-                rw e (λ i. head i ∷ weave-back xs i)
-      | inr e ↦ let none = mod-eq-of-lt (leb-false (2 ^ b) x e) in
-                let head : x % 2 ^ b + 2 ^ b * (0 * getD (parts b xs) 0 0) ≡ x = omega arith in
-                rw e (λ i. head i ∷ weave-back xs i) ]
+        | inl e ↦ let head : x % 2 ^ b + 2 ^ b * (1 * (x / 2 ^ b)) ≡ x = omega (arith, split x b) in
+            rw e (λ i. head i ∷ weave-back xs i)
+        | inr e ↦ let none = mod-eq-of-lt (leb-false (2 ^ b) x e) in
+            let head : x % 2 ^ b + 2 ^ b * (0 * getD (parts b xs) 0 0) ≡ x = omega arith in
+            rw e (λ i. head i ∷ weave-back xs i)
+      ]
 
 -- xs has these low parts, marks and high parts, the high parts having at most r bits
 pub record Woven (b r : ℕ) (ls ms hs xs : List ℕ) : Type 0 where
@@ -44,7 +45,8 @@ module _ (b r : ℕ) where
         low-parts = λ i. last i ∷ w .low-parts i;
         its-marks = rw none (ap (λ ms. 0 ∷ ms) (w .its-marks));
         high-parts = rw none (w .high-parts);
-        narrow = (omega arith, w .narrow) }
+        narrow = (omega arith, w .narrow);
+      }
 
   woven-high : {ls ms hs xs : List ℕ} (x l h : ℕ) → x ≡ h * 2 ^ b + l → l < 2 ^ b → 0 < h → h < 2 ^ r → Woven b r ls ms hs xs → Woven b r (l ∷ ls) (1 ∷ ms) (h ∷ hs) (x ∷ xs)
   woven-high x l h e small positive narrow w =
@@ -56,11 +58,12 @@ module _ (b r : ℕ) where
         low-parts = λ i. last i ∷ w .low-parts i;
         its-marks = rw some (ap (λ ms. 1 ∷ ms) (w .its-marks));
         high-parts = rw some (λ i. first i ∷ w .high-parts i);
-        narrow = (omega (arith, digits-lt narrow small, pow-add 2 b r), w .narrow) }
+        narrow = (omega (arith, digits-lt narrow small, pow-add 2 b r), w .narrow);
+      }
 
   pub weave-woven :
-    (ls ms hs : List ℕ) → Narrow b ls → Narrow 1 ms → length ls ≡ length ms → length hs ≡ sum ms
-    → All (λ h. 0 < h) hs → Narrow r hs → Woven b r ls ms hs (weave b ls ms hs)
+      (ls ms hs : List ℕ) → Narrow b ls → Narrow 1 ms → length ls ≡ length ms → length hs ≡ sum ms
+      → All (λ h. 0 < h) hs → Narrow r hs → Woven b r ls ms hs (weave b ls ms hs)
   unfolding weave
   weave-woven [] [] [] nl nm same count positive nh = record { low-parts = refl; its-marks = refl; high-parts = refl; narrow = tt }
   weave-woven [] [] (h ∷ hs) nl nm same count positive nh = absurd (omega arith)
@@ -68,9 +71,9 @@ module _ (b r : ℕ) where
   weave-woven (l ∷ ls) [] hs nl nm same count positive nh = absurd (omega arith)
   weave-woven (l ∷ ls) (zero ∷ ms) hs nl nm same count positive nh =
       woven-low (l + 2 ^ b * (0 * getD hs 0 0)) l (omega arith) (nl .0)
-        (weave-woven ls ms hs (nl .1) (nm .1) (omega arith) (count ∙ omega (arith, sumBy-cons (λ x. x) 0 ms)) positive nh)
+      (weave-woven ls ms hs (nl .1) (nm .1) (omega arith) (count ∙ omega (arith, sumBy-cons (λ x. x) 0 ms)) positive nh)
   weave-woven (l ∷ ls) (suc zero ∷ ms) [] nl nm same count positive nh = absurd (omega (arith, sumBy-cons (λ x. x) 1 ms))
   weave-woven (l ∷ ls) (suc zero ∷ ms) (h ∷ hs) nl nm same count positive nh =
       woven-high (l + 2 ^ b * (1 * h)) l h (omega arith) (nl .0) (positive .0) (nh .0)
-        (weave-woven ls ms hs (nl .1) (nm .1) (omega arith) (omega (arith, sumBy-cons (λ x. x) 1 ms)) (positive .1) (nh .1))
+      (weave-woven ls ms hs (nl .1) (nm .1) (omega arith) (omega (arith, sumBy-cons (λ x. x) 1 ms)) (positive .1) (nh .1))
   weave-woven (l ∷ ls) (suc (suc m) ∷ ms) hs nl nm same count positive nh = absurd (omega (arith, nm .0))

@@ -57,4 +57,5 @@ cut b L = record {
   reach = b + L .reach;
   string = λ xs. packed b (lows b xs) ++ (packed 1 (marks b xs) ++ (packed 32 (directory (marks b xs)) ++ L .string (parts b xs)));
   verdict = verdict-of b L;
-  numbers = λ bytes m. weave b (unpacked b m bytes) (marks-in b bytes m) (highs-in b L bytes m) }
+  numbers = λ bytes m. weave b (unpacked b m bytes) (marks-in b bytes m) (highs-in b L bytes m);
+}

@@ -19,4 +19,5 @@ fixed w = record {
   reach = w;
   string = packed w;
   verdict = λ bytes m. passing (leb (room w m) (length bytes)) TooFew (passing (filled w m bytes) Fill (Ok (room w m)));
-  numbers = λ bytes m. unpacked w m bytes }
+  numbers = λ bytes m. unpacked w m bytes;
+}

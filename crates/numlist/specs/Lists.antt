@@ -33,14 +33,14 @@ pub record Begins (L : Meaning) (bytes : List ℕ) (m n : ℕ) : Type 0 where
 -- nothing but strings is; a string has at most so many bytes, and each of them is a byte
 pub record Sound (L : Meaning) : Type 0 where
   pub back :
-    (xs rest : List ℕ) → Narrow (L .reach) xs → length xs ≤ most → L .numbers (L .string xs ++ rest) (length xs) ≡ xs
+      (xs rest : List ℕ) → Narrow (L .reach) xs → length xs ≤ most → L .numbers (L .string xs ++ rest) (length xs) ≡ xs
   pub accepts :
-    (xs rest : List ℕ) → Narrow (L .reach) xs → length xs ≤ most
-    → L .verdict (L .string xs ++ rest) (length xs) ≡ Ok (length (L .string xs))
+      (xs rest : List ℕ) → Narrow (L .reach) xs → length xs ≤ most
+      → L .verdict (L .string xs ++ rest) (length xs) ≡ Ok (length (L .string xs))
   pub exactly :
-    (bytes : List ℕ) (m n : ℕ) → Narrow 8 bytes → m ≤ most → L .verdict bytes m ≡ Ok n → Begins L bytes m n
+      (bytes : List ℕ) (m n : ℕ) → Narrow 8 bytes → m ≤ most → L .verdict bytes m ≡ Ok n → Begins L bytes m n
   pub small :
-    (xs : List ℕ) → Narrow (L .reach) xs → length xs ≤ most → length (L .string xs) ≤ (length xs + 16) * L .reach
+      (xs : List ℕ) → Narrow (L .reach) xs → length xs ≤ most → length (L .string xs) ≤ (length xs + 16) * L .reach
   pub bytes : (xs : List ℕ) → Narrow (L .reach) xs → length xs ≤ most → Narrow 8 (L .string xs)
 
 -- the verdict v where a test passes, and its fault at the top level where it fails
