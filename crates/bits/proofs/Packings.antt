@@ -1,5 +1,5 @@
 -- Packing and unpacking undo each other, and how a front of bytes stands to the number that all of them come to. Assumes nothing.
-use mathlib.Core.Path.{_≡_, refl, sym, ap, _∙_}
+use mathlib.Core.Path.{_≡_, sym, ap, _∙_}
 use mathlib.Core.List.{List, _++_}
 use Prim.Native.Nat.{ℕ, _+_, _-_, _*_, _/_, _%_, _^_, _<_, _≤_}
 use native.Mathlib.Nat.{mod-eq-of-lt, lt-of-lt-of-le}
@@ -41,7 +41,7 @@ mod-fewer : (n : ℕ) {a b : ℕ} → a ≤ b → n % 2 ^ b % 2 ^ a ≡ n % 2 ^ 
 mod-fewer n {a} {b} h = let e : b ≡ (b - a) + a = omega arith in ap (λ c. n % 2 ^ c % 2 ^ a) e ∙ mod-mod-pow n (b - a) a
 
 -- the bytes have at least the bits of the numbers
-pub bits-within : (w m : ℕ) → w * m ≤ 8 * room w m
+bits-within : (w m : ℕ) → w * m ≤ 8 * room w m
 bits-within w m = omega arith
 
 pub length-packed : (w : ℕ) (xs : List ℕ) → length (packed w xs) ≡ room w (length xs)

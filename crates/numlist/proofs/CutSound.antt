@@ -1,18 +1,16 @@
 -- A cut over a sound list is sound. Assumes nothing.
-use mathlib.Core.Path.{_≡_, refl, sym, ap, _∙_}
+use mathlib.Core.Path.{_≡_, sym, ap, _∙_}
 use mathlib.Core.List.{List, _++_, append-assoc}
 use Prim.Native.Nat.{ℕ, _+_, _*_, _%_, _^_, _<_, _≤_}
 use native.Mathlib.Omega.{arith}
 use lib.ListN.{length, take, drop, length-drop, length-map}
 use lib.Seq.{take-add}
-use Rattle.std.specs.shelf.Lists.{sum}
-use Rattle.std.specs.declared.result.Result.the-variants.{Ok}
 use Rattle.std.proofs.shelf.Elements.{all-drop}
 use Rattle.bits.specs.Packing.{Narrow, room, packed, unpacked}
 use Rattle.bits.proofs.Packings.{length-unpacked, narrow-unpacked}
 use Rattle.numlist.specs.Lists.{Meaning, Sound, Begins, most}
-use Rattle.numlist.specs.Parts.{lows, marks, parts, entries, directory, weave}
-use Rattle.numlist.specs.Cuts.{marks-at, directory-at, below-at, marks-in, directory-in, highs-in, verdict-of, cut}
+use Rattle.numlist.specs.Parts.{entries, directory}
+use Rattle.numlist.specs.Cuts.{marks-at, directory-at, below-at, marks-in, ones-in, below-in, highs-in, sections, cut}
 use Rattle.numlist.proofs.CutStrings.{cut-back, cut-accepts, cut-small, cut-bytes}
 use Rattle.numlist.proofs.CutVerdicts.{Passed, passed}
 use Rattle.numlist.proofs.Directories.{sum-narrow}
@@ -20,19 +18,27 @@ use Rattle.numlist.proofs.Sections.{section-same, words-filled}
 use Rattle.numlist.proofs.Weaving.{Woven, weave-woven}
 
 -- a front of bytes in four pieces
-four-pieces : (i j k n : ℕ) (xs : List ℕ) → take (i + j + k + n) xs ≡ take i xs ++ (take j (drop i xs) ++ (take k (drop (i + j) xs) ++ take n (drop (i + j + k) xs)))
+four-pieces :
+    (i j k n : ℕ) (xs : List ℕ) → take (i + j + k + n) xs
+    ≡ take i xs ++ (take j (drop i xs) ++ (take k (drop (i + j) xs) ++ take n (drop (i + j + k) xs)))
 four-pieces i j k n xs = rw (take-add (i + j + k) n xs, take-add (i + j) k xs, take-add i j xs) (simp append-assoc)
 
 -- bytes that the cut accepts
-module _ (b : ℕ) (L : Meaning) (sound : Sound L) (bytes : List ℕ) (m n : ℕ) (narrow : Narrow 8 bytes) (few : m ≤ most) (p : Passed b L bytes m n) where
-  few-marks : sum (marks-in b bytes m) ≤ m
-  few-marks = omega (arith, sum-narrow (marks-in b bytes m) (narrow-unpacked 1 m (drop (marks-at b m) bytes)), length-unpacked 1 m (drop (marks-at b m) bytes))
+module _
+    (b : ℕ) (L : Meaning) (sound : Sound L) (bytes : List ℕ) (m n : ℕ) (narrow : Narrow 8 bytes) (few : m ≤ most)
+    (p : Passed b L bytes m n) where
+  few-marks : ones-in b bytes m ≤ m
+  few-marks =
+      let rest = drop (marks-at b m) bytes in
+      omega (arith, sum-narrow (marks-in b bytes m) (narrow-unpacked 1 m rest), length-unpacked 1 m rest)
 
   narrow-from : (i : ℕ) → Narrow 8 (drop i bytes)
   narrow-from i = all-drop (λ x. x < 2 ^ 8) i bytes narrow
 
-  begins-below : Begins L (drop (below-at b m) bytes) (sum (marks-in b bytes m)) (p .taken)
-  begins-below = sound .exactly (drop (below-at b m) bytes) (sum (marks-in b bytes m)) (p .taken) (narrow-from (below-at b m)) (omega (arith, few-marks)) (p .accepted-below)
+  begins-below : Begins L (below-in b bytes m) (ones-in b bytes m) (p .taken)
+  begins-below =
+      sound .exactly (below-in b bytes m) (ones-in b bytes m) (p .taken) (narrow-from (below-at b m)) (omega (arith, few-marks))
+      (p .accepted-below)
 
   woven : Woven b (L .reach) (unpacked b m bytes) (marks-in b bytes m) (highs-in b L bytes m) (cut b L .numbers bytes m)
   woven =
@@ -62,8 +68,8 @@ module _ (b : ℕ) (L : Meaning) (sound : Sound L) (bytes : List ℕ) (m n : ℕ
   same-string : take n bytes ≡ cut b L .string (cut b L .numbers bytes m)
   same-string =
       let xs = cut b L .numbers bytes m in
-      let its-sections : cut b L .string xs ≡ packed b (unpacked b m bytes) ++ (packed 1 (marks-in b bytes m) ++ (packed 32 (directory (marks-in b bytes m)) ++ L .string (highs-in b L bytes m))) =
-      λ i. packed b (woven .low-parts i) ++ (packed 1 (woven .its-marks i) ++ (packed 32 (directory (woven .its-marks i)) ++ L .string (woven .high-parts i)))
+      let its-sections : cut b L .string xs ≡ sections b (unpacked b m bytes) (marks-in b bytes m) (L .string (highs-in b L bytes m)) =
+      λ i. sections b (woven .low-parts i) (woven .its-marks i) (L .string (woven .high-parts i))
       in
       ap (λ k. take k bytes) (sym (p .total))
       ∙ four-pieces (room b m) (room 1 m) (4 * entries m) (p .taken) bytes

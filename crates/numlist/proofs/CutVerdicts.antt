@@ -1,14 +1,12 @@
 -- Bytes that a cut accepts: what its tests say of them. Assumes nothing.
 use mathlib.Core.Path.{_≡_, refl}
-use mathlib.Core.Bool.{Bool, true, _&&_}
+use mathlib.Core.Bool.{true}
 use mathlib.Core.List.{List}
 use Prim.Native.Nat.{ℕ, _+_, _<_, _≤_}
-use lib.Dec.{leb, ltb}
+use lib.Dec.{ltb}
 use lib.ListN.{length, drop}
 use Rattle.std.specs.Orderings.{Decides}
-use Rattle.std.specs.shelf.Lists.{All, sum}
-use Rattle.std.specs.shelf.Text.{sameBytes}
-use Rattle.std.specs.declared.result.Result.{Result}
+use Rattle.std.specs.shelf.Lists.{All}
 use Rattle.std.specs.declared.result.Result.the-variants.{Ok}
 use Rattle.std.proofs.shelf.Equals.{sameBytes-decides}
 use Rattle.std.proofs.shelf.Tests.{and-parts, leb-true}
@@ -16,7 +14,7 @@ use Rattle.std.proofs.shelf.Ways.{decides-by-and, decides-ltb}
 use Rattle.numlist.specs.Lists.{Meaning}
 use Rattle.numlist.specs.Parts.{directory}
 use Rattle.numlist.specs.Fixed.{filled}
-use Rattle.numlist.specs.Cuts.{marks-at, below-at, marks-in, directory-in, highs-in, nonzero, verdict-of}
+use Rattle.numlist.specs.Cuts.{marks-at, below-at, marks-in, directory-in, ones-in, below-in, highs-in, nonzero, verdict-of}
 use Rattle.numlist.proofs.Verdicts.{passing-ok, below-ok}
 
 pub nonzero-decides : (hs : List ℕ) → Decides (nonzero hs) (All (λ h. 0 < h) hs)
@@ -30,7 +28,7 @@ pub record Passed (b : ℕ) (L : Meaning) (bytes : List ℕ) (m n : ℕ) : Type 
   pub marks-filled : filled 1 m (drop (marks-at b m) bytes) ≡ true
   pub entries-same : directory-in b bytes m ≡ directory (marks-in b bytes m)
   pub taken : ℕ
-  pub accepted-below : L .verdict (drop (below-at b m) bytes) (sum (marks-in b bytes m)) ≡ Ok taken
+  pub accepted-below : L .verdict (below-in b bytes m) (ones-in b bytes m) ≡ Ok taken
   pub positive : All (λ h. 0 < h) (highs-in b L bytes m)
   pub total : below-at b m + taken ≡ n
 

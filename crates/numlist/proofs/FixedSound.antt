@@ -1,8 +1,7 @@
 -- The fixed list is sound. Assumes nothing.
-use mathlib.Core.Path.{_≡_, refl, sym, ap, _∙_}
-use mathlib.Core.Bool.{true}
+use mathlib.Core.Path.{_≡_, refl, sym, ap}
 use mathlib.Core.List.{List, _++_}
-use Prim.Native.Nat.{ℕ, _+_, _*_, _≤_}
+use Prim.Native.Nat.{ℕ, _≤_}
 use native.Mathlib.Omega.{arith}
 use lib.Dec.{leb}
 use lib.ListN.{length, length-append}
@@ -19,7 +18,7 @@ use Rattle.numlist.proofs.Sections.{section-filled, section-same}
 fixed-accepts : (w : ℕ) (xs rest : List ℕ) → Narrow w xs → fixed w .verdict (packed w xs ++ rest) (length xs) ≡ Ok (length (packed w xs))
 fixed-accepts w xs rest narrow =
     let long = length-packed w xs in
-    let enough : leb (room w (length xs)) (length (packed w xs ++ rest)) ≡ true = le-leb (room w (length xs)) (length (packed w xs ++ rest)) (simp length-append (omega arith)) in
+    let enough = le-leb (room w (length xs)) (length (packed w xs ++ rest)) (simp length-append (omega arith)) in
     rw (enough, section-filled w (length xs) xs rest refl narrow) (ap Ok (sym long))
 
 fixed-exactly : (w : ℕ) (bytes : List ℕ) (m n : ℕ) → Narrow 8 bytes → fixed w .verdict bytes m ≡ Ok n → Begins (fixed w) bytes m n

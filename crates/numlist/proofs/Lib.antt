@@ -1,11 +1,12 @@
 pub mod Examples
 pub mod Highs
 pub mod Weaving
-pub mod Verdicts
-pub mod Sections
-pub mod FixedSound
-pub mod Strings
 pub mod Directories
-pub mod CutStrings
+pub mod Sections
+pub mod Verdicts
+pub mod FixedSound
+pub mod CutSections
 pub mod CutVerdicts
+pub mod CutStrings
 pub mod CutSound
+pub mod Strings

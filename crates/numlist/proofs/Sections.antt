@@ -1,5 +1,5 @@
 -- A section of packed numbers at the front of bytes. Assumes nothing.
-use mathlib.Core.Path.{_≡_, refl, sym, ap, subst, _∙_}
+use mathlib.Core.Path.{_≡_, sym, ap, subst, _∙_}
 use mathlib.Core.Bool.{true}
 use mathlib.Core.List.{List, _++_}
 use Prim.Native.Nat.{ℕ, _*_, _^_, _<_, _≤_}
@@ -30,7 +30,9 @@ module _ (w m : ℕ) (xs rest : List ℕ) (count : length xs ≡ m) (narrow : Na
   section-behind = drop-at (packed w xs) rest (room w m) (section-long w m xs count)
 
 -- bytes with fill bits of 0 begin with the numbers that they show
-pub section-same : (w m : ℕ) (bytes : List ℕ) → Narrow 8 bytes → room w m ≤ length bytes → filled w m bytes ≡ true → take (room w m) bytes ≡ packed w (unpacked w m bytes)
+pub section-same :
+    (w m : ℕ) (bytes : List ℕ) → Narrow 8 bytes → room w m ≤ length bytes → filled w m bytes ≡ true
+    → take (room w m) bytes ≡ packed w (unpacked w m bytes)
 section-same w m bytes narrow within fill =
     sym (packed-unpacked w m bytes narrow within (ltb-true (value 8 (take (room w m) bytes)) (2 ^ (w * m)) fill))
 

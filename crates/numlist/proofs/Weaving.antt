@@ -1,15 +1,16 @@
 -- Numbers and their parts, woven together and taken apart. Assumes nothing.
 use mathlib.Core.Path.{_≡_, refl, sym, ap, _∙_}
-use mathlib.Core.Bool.{true, false, cond}
-use mathlib.Core.List.{List, [], _∷_, map}
+use mathlib.Core.Bool.{true, false}
+use mathlib.Core.List.{List, [], _∷_}
 use mathlib.Core.Logic.{inl, inr}
-use Prim.Native.Nat.{ℕ, zero, suc, _+_, _-_, _*_, _/_, _%_, _^_, _<_, _≤_}
+use Prim.Native.Nat.{ℕ, zero, suc, _+_, _*_, _/_, _%_, _^_, _<_, _≤_}
 use native.Mathlib.Nat.{mod-eq-of-lt, mul-le-mul-right}
 use native.Mathlib.Omega.{arith}
 use lib.Arith.{digits-lt}
-use lib.ListN.{length, getD, drop}
+use lib.ListN.{length, getD, take, drop}
 use lib.Pow.{pow-add, pow-mono, split, low, high}
-use Rattle.std.specs.shelf.Lists.{All, kept-by, sum}
+use lib.Seq.{getD-drop}
+use Rattle.std.specs.shelf.Lists.{All, sum}
 use Rattle.std.proofs.shelf.Sums.{sumBy-cons}
 use Rattle.std.proofs.shelf.Tests.{cases-bool, leb-false, le-leb, lt-leb}
 use Rattle.bits.specs.Packing.{Narrow}
@@ -28,6 +29,19 @@ module _ (b : ℕ) where
             rw e (λ i. head i ∷ weave-back xs i)
       ]
 
+  -- number i by itself: its high part stands behind those of the 1 marks before it
+  pub getD-weave :
+      (ls ms hs : List ℕ) (i : ℕ) → length ls ≡ length ms → i < length ls
+      → getD (weave b ls ms hs) i 0 ≡ getD ls i 0 + 2 ^ b * (getD ms i 0 * getD hs (sum (take i ms)) 0)
+  unfolding weave
+  getD-weave [] ms hs i same h = absurd (omega arith)
+  getD-weave (l ∷ ls) [] hs i same h = absurd (omega arith)
+  getD-weave (l ∷ ls) (m ∷ ms) hs zero same h = refl
+  getD-weave (l ∷ ls) (m ∷ ms) hs (suc i) same h =
+      getD-weave ls ms (drop m hs) i (omega arith) (omega arith)
+      ∙ ap (λ n. getD ls i 0 + 2 ^ b * (getD ms i 0 * n)) (getD-drop m hs (sum (take i ms)) 0)
+      ∙ ap (λ n. getD ls i 0 + 2 ^ b * (getD ms i 0 * getD hs n 0)) (sym (sumBy-cons (λ x. x) m (take i ms)))
+
 -- xs has these low parts, marks and high parts, the high parts having at most r bits
 pub record Woven (b r : ℕ) (ls ms hs xs : List ℕ) : Type 0 where
   pub low-parts : lows b xs ≡ ls
@@ -36,7 +50,9 @@ pub record Woven (b r : ℕ) (ls ms hs xs : List ℕ) : Type 0 where
   pub narrow : Narrow (b + r) xs
 
 module _ (b r : ℕ) where
-  woven-low : {ls ms hs xs : List ℕ} (x l : ℕ) → x ≡ l → l < 2 ^ b → Woven b r ls ms hs xs → Woven b r (l ∷ ls) (0 ∷ ms) hs (x ∷ xs)
+  woven-low :
+      {ls ms hs xs : List ℕ} (x l : ℕ) → x ≡ l → l < 2 ^ b → Woven b r ls ms hs xs
+      → Woven b r (l ∷ ls) (0 ∷ ms) hs (x ∷ xs)
   woven-low x l e small w =
       let none : marked b x ≡ false = lt-leb (2 ^ b) x (omega arith) in
       let more : 2 ^ b ≤ 2 ^ (b + r) = pow-mono (omega arith) in
@@ -48,7 +64,9 @@ module _ (b r : ℕ) where
         narrow = (omega arith, w .narrow);
       }
 
-  woven-high : {ls ms hs xs : List ℕ} (x l h : ℕ) → x ≡ h * 2 ^ b + l → l < 2 ^ b → 0 < h → h < 2 ^ r → Woven b r ls ms hs xs → Woven b r (l ∷ ls) (1 ∷ ms) (h ∷ hs) (x ∷ xs)
+  woven-high :
+      {ls ms hs xs : List ℕ} (x l h : ℕ) → x ≡ h * 2 ^ b + l → l < 2 ^ b → 0 < h → h < 2 ^ r → Woven b r ls ms hs xs
+      → Woven b r (l ∷ ls) (1 ∷ ms) (h ∷ hs) (x ∷ xs)
   woven-high x l h e small positive narrow w =
       let one-more : 1 * 2 ^ b ≤ h * 2 ^ b = mul-le-mul-right (2 ^ b) positive in
       let some : marked b x ≡ true = le-leb (2 ^ b) x (omega arith) in

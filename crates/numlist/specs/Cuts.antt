@@ -25,16 +25,26 @@ directory-at b m = room b m + room 1 m
 abbrev pub below-at : ℕ → ℕ → ℕ
 below-at b m = room b m + room 1 m + 4 * entries m
 
--- the marks and the directory that bytes have, for m numbers
+-- the sections: low parts ls, marks ms, the directory of the marks, and then rest, the bytes of the list below
+abbrev pub sections : ℕ → List ℕ → List ℕ → List ℕ → List ℕ
+sections b ls ms rest = packed b ls ++ (packed 1 ms ++ (packed 32 (directory ms) ++ rest))
+
+-- the marks and the directory that bytes show for m numbers, the number of 1 marks, and the bytes of the list below
 abbrev pub marks-in : ℕ → List ℕ → ℕ → List ℕ
 marks-in b bytes m = unpacked 1 m (drop (marks-at b m) bytes)
 
 abbrev pub directory-in : ℕ → List ℕ → ℕ → List ℕ
 directory-in b bytes m = unpacked 32 (entries m) (drop (directory-at b m) bytes)
 
--- the high parts that the list L below reads in the bytes: as many as there are 1 marks
+abbrev pub ones-in : ℕ → List ℕ → ℕ → ℕ
+ones-in b bytes m = sum (marks-in b bytes m)
+
+abbrev pub below-in : ℕ → List ℕ → ℕ → List ℕ
+below-in b bytes m = drop (below-at b m) bytes
+
+-- the high parts that the list L below reads there: as many as there are 1 marks
 abbrev pub highs-in : ℕ → Meaning → List ℕ → ℕ → List ℕ
-highs-in b L bytes m = L .numbers (drop (below-at b m) bytes) (sum (marks-in b bytes m))
+highs-in b L bytes m = L .numbers (below-in b bytes m) (ones-in b bytes m)
 
 -- no number is 0
 unfoldable pub nonzero : List ℕ → Bool
@@ -48,14 +58,14 @@ verdict-of b L bytes m =
     passing (leb (below-at b m) (length bytes)) TooFew
     (passing (filled b m bytes && filled 1 m (drop (marks-at b m) bytes)) Fill
     (passing (sameBytes (directory-in b bytes m) (directory (marks-in b bytes m))) Directory
-    (below (L .verdict (drop (below-at b m) bytes) (sum (marks-in b bytes m)))
+    (below (L .verdict (below-in b bytes m) (ones-in b bytes m))
     (λ n. passing (nonzero (highs-in b L bytes m)) ZeroPart (Ok (below-at b m + n))))))
 
 -- the list that keeps the b lowest bits of each number itself and gives the high parts to L
 abbrev pub cut : ℕ → Meaning → Meaning
 cut b L = record {
   reach = b + L .reach;
-  string = λ xs. packed b (lows b xs) ++ (packed 1 (marks b xs) ++ (packed 32 (directory (marks b xs)) ++ L .string (parts b xs)));
+  string = λ xs. sections b (lows b xs) (marks b xs) (L .string (parts b xs));
   verdict = verdict-of b L;
   numbers = λ bytes m. weave b (unpacked b m bytes) (marks-in b bytes m) (highs-in b L bytes m);
 }
