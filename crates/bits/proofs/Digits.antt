@@ -1,14 +1,12 @@
 -- Digits of w bits and the numbers that they come to. Assumes nothing.
-use mathlib.Core.Path.{_≡_, refl, sym, ap, subst, _∙_}
+use mathlib.Core.Path.{_≡_, refl, sym, ap, _∙_}
 use mathlib.Core.List.{List, [], _∷_, _++_}
-use Prim.Native.Nat.{ℕ, zero, suc, _+_, _-_, _*_, _/_, _%_, _^_, _<_, _≤_}
-use native.Mathlib.Nat.{add-zero, zero-add, mul-zero, mul-suc, mod-lt, mul-assoc, add-assoc, mul-comm, add-mul}
-use native.Mathlib.Numerals.{add-one}
+use Prim.Native.Nat.{ℕ, zero, suc, _+_, _*_, _/_, _%_, _^_, _<_}
+use native.Mathlib.Nat.{mul-zero, mul-suc, mod-lt, mul-assoc, add-mul}
 use native.Mathlib.Omega.{arith}
 use lib.Arith.{digits-lt}
-use lib.ListN.{length, getD, take, drop}
-use lib.Pow.{pow-pos, pow-add, split, high, low, mod-pow-add, field, mod-mod-pow, shr-shr}
-use Rattle.std.specs.shelf.Lists.{All}
+use lib.ListN.{length, getD}
+use lib.Pow.{pow-pos, pow-add, high, low, mod-pow-add, shr-shr}
 use Rattle.bits.specs.Packing.{value, digits, Narrow}
 
 pub length-digits : (w k n : ℕ) → length (digits w k n) ≡ k

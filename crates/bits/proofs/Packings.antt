@@ -37,7 +37,7 @@ digits-low w k n =
     rw (length-digits, value-digits) at e
 
 -- the remainder at fewer bits, of the remainder at more
-mod-fewer : (n : ℕ) {a b : ℕ} → a ≤ b → n % 2 ^ b % 2 ^ a ≡ n % 2 ^ a
+pub mod-fewer : (n : ℕ) {a b : ℕ} → a ≤ b → n % 2 ^ b % 2 ^ a ≡ n % 2 ^ a
 mod-fewer n {a} {b} h = let e : b ≡ (b - a) + a = omega arith in ap (λ c. n % 2 ^ c % 2 ^ a) e ∙ mod-mod-pow n (b - a) a
 
 -- the bytes have at least the bits of the numbers
