@@ -1,19 +1,22 @@
 -- Words of 64 bits out of bytes. Assumes nothing.
-use mathlib.Core.Path.{_≡_, refl, sym, ap, _∙_}
+use mathlib.Core.Path.{_≡_, refl, sym, ap, subst, _∙_}
+use mathlib.Core.Logic.{⊎-elim}
 use mathlib.Core.List.{List, [], _∷_}
 use Prim.Native.Nat.{ℕ, zero, suc, _+_, _-_, _*_, _/_, _%_, _^_, _<_, _≤_}
-use native.Mathlib.Nat.{mod-eq-of-lt, lt-of-lt-of-le, mul-zero, mul-suc, zero-div}
+use native.Mathlib.Nat.{mod-lt, mul-le-mul-left, div-eq-of-lt, mod-eq-of-lt, lt-of-lt-of-le, mul-zero, mul-suc, zero-div}
 use native.Mathlib.Omega.{arith}
 use mir.Syntax.{w8}
 use mir.Val.{Fits}
-use lib.Dec.{lit<}
-use lib.ListN.{length, getD, drop, length-drop}
-use lib.Pow.{pow-mono, high, low, field, shr-shr}
-use Rattle.std.proofs.shelf.Lists.{drop-more}
+use lib.Dec.{lit<, lit≤, eqb, ltb}
+use lib.ListN.{length, getD, take, drop, length-drop}
+use lib.Pow.{pow-pos, pow-mono, high, low, field, shr-shr}
+use Rattle.std.proofs.shelf.Lists.{drop-more, take-all}
+use Rattle.std.proofs.shelf.Tests.{cases-lt, eq-eqb, ne-eqb, lt-ltb, le-ltb}
+use Rattle.std.proofs.shelf.Bits.{le-div}
 use Rattle.std.proofs.shelf.Elements.{all-drop, all-getD, all-from-getD}
 use Rattle.bits.specs.Packing.{value, Narrow}
 use Rattle.bits.proofs.Digits.{value-narrow}
-use Rattle.bits.proofs.Packings.{mod-fewer}
+use Rattle.bits.proofs.Packings.{mod-fewer, value-take}
 
 -- what is behind the first k digits, be there fewer or not
 pub value-behind : (w k : ℕ) (xs : List ℕ) → Narrow w xs → value w (drop k xs) ≡ value w xs / 2 ^ (w * k)
@@ -82,3 +85,47 @@ field-of-word n at w h =
     ∙ ap (λ m. m % 2 ^ w) (field (n / 2 ^ (8 * (at / 8))) (64 - k) k)
     ∙ mod-fewer (n / 2 ^ (8 * (at / 8)) / 2 ^ k) enough
     ∙ ap (λ m. m % 2 ^ w) (shr-shr n (8 * (at / 8)) k ∙ ap (λ b. n / 2 ^ b) place)
+
+-- a front of the bytes, be there as many or not
+pub value-front : (w k : ℕ) (xs : List ℕ) → Narrow w xs → value w (take k xs) ≡ value w xs % 2 ^ (w * k)
+value-front w k xs narrow = ⊎-elim (λ h. value-take w k xs (omega arith) narrow) short (cases-lt k (length xs))
+  where
+    short : length xs ≤ k → value w (take k xs) ≡ value w xs % 2 ^ (w * k)
+    short h =
+        let fits : value w xs < 2 ^ (w * k) = lt-of-lt-of-le (value-narrow w xs narrow) (pow-mono (mul-le-mul-left w h)) in
+        ap (value w) (take-all k xs h) ∙ sym (mod-eq-of-lt fits)
+
+-- the fill bits: none where the bits fill their bytes
+pub no-fill : (bytes : List ℕ) (bits : ℕ) → Narrow 8 bytes → bits % 8 ≡ 0 → value 8 (take ((bits + 7) / 8) bytes) / 2 ^ bits ≡ 0
+no-fill bytes bits narrow whole =
+    let last : 8 * ((bits + 7) / 8) ≡ bits = omega arith in
+    div-eq-of-lt (subst (λ n. value 8 (take ((bits + 7) / 8) bytes) < n) (ap (λ b. 2 ^ b) last)
+    (subst (λ n. n < 2 ^ (8 * ((bits + 7) / 8))) (sym (value-front 8 ((bits + 7) / 8) bytes narrow)) (mod-lt (value 8 bytes) (pow-pos (8 * ((bits + 7) / 8))))))
+
+-- and otherwise those of one byte
+pub fill-of-byte :
+    (bytes : List ℕ) (bits : ℕ) → Narrow 8 bytes → 0 < bits % 8
+    → value 8 bytes / 2 ^ (8 * (bits / 8)) % 2 ^ 64 % 2 ^ 8 / 2 ^ (bits % 8) ≡ value 8 (take ((bits + 7) / 8) bytes) / 2 ^ bits
+fill-of-byte bytes bits narrow part =
+    let n = value 8 bytes in
+    let k = 8 * (bits / 8) in
+    let s = bits % 8 in
+    let byte : 8 ≡ (8 - s) + s = omega arith in
+    let eight : 8 ≤ 64 = lit≤ tt in
+    let place : k + s ≡ bits = omega arith in
+    let end : 8 * ((bits + 7) / 8) ≡ (8 - s) + bits = omega arith in
+    ap (λ m. m / 2 ^ s) (mod-fewer (n / 2 ^ k) eight)
+    ∙ ap (λ b. n / 2 ^ k % 2 ^ b / 2 ^ s) byte
+    ∙ field (n / 2 ^ k) (8 - s) s
+    ∙ ap (λ m. m % 2 ^ (8 - s)) (shr-shr n k s ∙ ap (λ b. n / 2 ^ b) place)
+    ∙ sym (field n (8 - s) bits)
+    ∙ ap (λ b. n % 2 ^ b / 2 ^ bits) (sym end)
+    ∙ ap (λ m. m / 2 ^ bits) (sym (value-front 8 ((bits + 7) / 8) bytes narrow))
+
+-- a number without bits above the first so many
+pub none-above : (n bits : ℕ) → eqb (n / 2 ^ bits) 0 ≡ ltb n (2 ^ bits)
+none-above n bits =
+    ⊎-elim
+    (λ h. eq-eqb (n / 2 ^ bits) 0 (div-eq-of-lt h) ∙ sym (lt-ltb n (2 ^ bits) h))
+    (λ h. ne-eqb (n / 2 ^ bits) 0 (λ e. let some = le-div 1 n (2 ^ bits) (pow-pos bits) (omega arith) in omega arith) ∙ sym (le-ltb n (2 ^ bits) h))
+    (cases-lt n (2 ^ bits))

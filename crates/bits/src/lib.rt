@@ -6,6 +6,7 @@ mod width;
 
 pub use counting::ones;
 pub use pen::Pen;
+pub use reading::is_filled;
 pub use reading::read;
 pub use reading::word;
 pub use width::MOST_BITS;

@@ -1,7 +1,8 @@
 //! Reading numbers out of bytes.
 ghost use mathlib.Core.Path.{_≡_};
 ghost use Prim.Native.Nat.{_+_, _*_, _/_, _%_, _^_, _<_, _≤_};
-ghost use lib.ListN.{length};
+ghost use lib.Dec.{ltb};
+ghost use lib.ListN.{length, take};
 ghost use Rattle.bits.specs.Packing.{value};
 use crate::Width;
 
@@ -21,6 +22,24 @@ pub fn read(bytes: &[u8], at: usize, width: Width) -> u64
     ensures { λ r. ⌜ r ≡ value 8 (now (bytes .entry)) / 2 ^ at % 2 ^ width .bits ⌝ }
 {
     low_bits(word(bytes, at / 8) >> (at % 8), width.bits())
+}
+
+/// Whether the bits behind the first `bits` are 0, up to the end of their byte.
+pub fn is_filled(bytes: &[u8], bits: usize) -> bool
+    ensures { λ r. ⌜ r ≡ ltb (value 8 (take ((bits + 7) / 8) (now (bytes .entry)))) (2 ^ bits) ⌝ }
+{
+    last_bits(bytes, bits) == 0
+}
+
+// The bits behind the first `bits`, up to the end of their byte.
+fn last_bits(bytes: &[u8], bits: usize) -> u64
+    ensures { λ r. ⌜ r ≡ value 8 (take ((bits + 7) / 8) (now (bytes .entry))) / 2 ^ bits ⌝ }
+{
+    let word = word(bytes, bits / 8);
+    if bits % 8 == 0 {
+        return 0;
+    }
+    word % 256 >> (bits % 8)
 }
 
 /// The lowest bits of a number.
