@@ -10,3 +10,6 @@ pub mod CutVerdicts
 pub mod CutStrings
 pub mod CutSound
 pub mod Strings
+pub mod Aboves
+pub mod Answering
+pub mod Zeros

@@ -2,3 +2,5 @@ pub mod Lists
 pub mod Fixed
 pub mod Parts
 pub mod Cuts
+pub mod Refusals
+pub mod Calls

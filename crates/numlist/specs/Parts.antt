@@ -5,6 +5,8 @@ use Prim.Native.Nat.{ℕ, zero, suc, _+_, _*_, _/_, _%_, _^_}
 use lib.Dec.{leb}
 use lib.ListN.{length, getD, take, drop}
 use Rattle.std.specs.Iters.{counting}
+use Rattle.std.specs.declared.option.Option.{Option}
+use Rattle.std.specs.declared.option.Option.the-variants.{Some, None}
 use Rattle.std.specs.shelf.Lists.{kept-by, sum}
 
 -- the low parts: the b lowest bits of each number
@@ -42,3 +44,12 @@ unfoldable pub weave : ℕ → List ℕ → List ℕ → List ℕ → List ℕ
 weave b [] ms hs = []
 weave b (l ∷ ls) [] hs = []
 weave b (l ∷ ls) (m ∷ ms) hs = (l + 2 ^ b * (m * getD hs 0 0)) ∷ weave b ls ms (drop m hs)
+
+-- what a list k bits up has of a number
+abbrev pub part-of : ℕ → ℕ → Option ℕ
+part-of zero x = Some x
+part-of (suc k) x = cond (marked (suc k) x) (Some (x / 2 ^ suc k)) None
+
+abbrev pub listed : Option ℕ → List ℕ
+listed (Some x) = x ∷ []
+listed None = []
