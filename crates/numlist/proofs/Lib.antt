@@ -1,4 +1,3 @@
-pub mod Examples
 pub mod Highs
 pub mod Weaving
 pub mod Directories
