@@ -1,6 +1,6 @@
 -- The numbers that a list k bits up has, one by one. Assumes nothing.
 use mathlib.Core.Path.{_≡_, refl, sym, ap, _∙_}
-use mathlib.Core.Bool.{true, _&&_}
+use mathlib.Core.Bool.{cond, true, _&&_}
 use mathlib.Core.List.{List, [], _∷_, _++_, map}
 use mathlib.Core.Logic.{inl, inr, ⊎-elim}
 use Prim.Native.Nat.{ℕ, zero, suc, _+_, _*_, _/_, _%_, _^_, _<_, _≤_, min}
@@ -10,16 +10,18 @@ use mir.Syntax.{w64}
 use mir.Val.{Fits}
 use lib.Dec.{ltb}
 use lib.ListN.{length, getD, take, drop, length-append, take-append-drop}
-use lib.Pow.{pow-mono}
-use Rattle.std.specs.shelf.Lists.{kept-by}
+use lib.Pow.{pow-pos, pow-mono}
+use Rattle.std.specs.shelf.Lists.{kept-by, sum}
+use Rattle.std.proofs.shelf.Bits.{le-div}
 use Rattle.std.proofs.shelf.Elements.{kept-by-append, all-from-getD}
 use Rattle.std.proofs.shelf.Lists.{map-append, map-push, take-more}
-use Rattle.std.proofs.shelf.Tests.{cases-bool, cases-lt, le-leb, lt-ltb, ltb-true, and-parts}
+use Rattle.std.proofs.shelf.Sums.{sumBy-append}
+use Rattle.std.proofs.shelf.Tests.{cases-bool, lt-leb, cases-lt, le-leb, lt-ltb, ltb-true, and-parts}
 use Rattle.std.specs.declared.option.Option.{Option}
 use Rattle.std.specs.declared.option.Option.the-variants.{Some, None}
 use Rattle.bits.specs.Packing.{Narrow, room}
 use Rattle.numlist.specs.Calls.{narrow}
-use Rattle.numlist.specs.Parts.{above, part-of, listed, lows, marked}
+use Rattle.numlist.specs.Parts.{above, part-of, listed, lows, marked, marks}
 
 pub above-append : (k : ℕ) (xs ys : List ℕ) → above k (xs ++ ys) ≡ above k xs ++ above k ys
 above-append zero xs ys = refl
@@ -100,3 +102,18 @@ lows-push w xs y = map-push (λ x. x % 2 ^ w) xs y
 
 pub are-words : (xs : List ℕ) → ((i : ℕ) → Fits w64 (getD xs i 0)) → Narrow 64 xs
 are-words xs fits = all-from-getD (λ x. x < 2 ^ 64) xs 0 (λ i h. fits i .fits)
+
+pub marks-push : (b : ℕ) (xs : List ℕ) (y : ℕ) → marks b (xs ++ y ∷ []) ≡ marks b xs ++ cond (marked b y) 1 0 ∷ []
+marks-push b xs y = map-push (λ x. cond (marked b x) 1 0) xs y
+
+pub mark-of : (b x : ℕ) → (x / 2 ^ b ≡ 0 → 0 ≡ cond {A = ℕ} (marked b x) 1 0) × ((x / 2 ^ b ≡ 0 → ⊥) → 1 ≡ cond {A = ℕ} (marked b x) 1 0)
+mark-of b x =
+    ⊎-elim
+    (λ h. ((λ e. sym (rw (lt-leb (2 ^ b) x h) refl)), (λ high. absurd (high (div-eq-of-lt h)))))
+    (λ h. let some : 1 ≤ x / 2 ^ b = le-div 1 x (2 ^ b) (pow-pos b) (omega arith) in
+    ((λ e. absurd (omega arith)), (λ high. sym (rw (le-leb (2 ^ b) x h) refl))))
+    (cases-lt x (2 ^ b))
+
+pub sum-marks-append : (b : ℕ) (xs ys : List ℕ) → sum (marks b (xs ++ ys)) ≡ sum (marks b xs) + sum (marks b ys)
+sum-marks-append b xs ys =
+    ap sum (map-append (λ x. cond (marked b x) 1 0) xs ys) ∙ sumBy-append (λ x. x) (marks b xs) (marks b ys)

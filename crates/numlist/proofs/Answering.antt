@@ -3,6 +3,7 @@ use mathlib.Core.Path.{_≡_, refl, sym}
 use mathlib.Core.Bool.{true, false}
 use mathlib.Core.List.{List}
 use Prim.Native.Nat.{ℕ, _<_, _≤_}
+use native.Mathlib.Omega.{arith}
 use lib.ListN.{length}
 use Rattle.std.specs.declared.result.Result.{Result}
 use Rattle.std.specs.declared.result.Result.the-variants.{Ok, Err}
@@ -24,3 +25,6 @@ module _ (L : Meaning) (xs : List ℕ) (bytes : ℕ) (few : length xs ≤ most) 
 
   pub write-fits : narrow (L .reach) xs ≡ true → length (L .string xs) ≤ bytes → Ok (length (L .string xs)) ≡ write-answer L xs bytes
   write-fits small short = sym (rw (le-leb (length xs) most few, small, le-leb (length (L .string xs)) bytes short) refl)
+
+pub never-both : (fault : ListFault) (n : ℕ) → _≡_ {A = Result ℕ ListFault} (Err fault) (Ok n) → ⊥
+never-both fault n e = let z : _≡_ {A = ℕ} 0 1 = cc in omega arith

@@ -12,3 +12,7 @@ pub mod Strings
 pub mod Aboves
 pub mod Answering
 pub mod Zeros
+pub mod Marks
+pub mod CutPuts
+pub mod CutJudged
+pub mod CutReads

@@ -1,13 +1,16 @@
 -- What the calls of a list answer.
 use mathlib.Core.Bool.{Bool, true, _&&_, cond}
 use mathlib.Core.List.{List, [], _∷_}
-use Prim.Native.Nat.{ℕ, _^_}
+use Prim.Native.Nat.{ℕ, _+_, _^_}
 use lib.Dec.{leb, ltb}
 use lib.ListN.{length}
+use Rattle.std.specs.declared.option.Option.{Option}
+use Rattle.std.specs.declared.option.Option.the-variants.{Some, None}
 use Rattle.std.specs.declared.result.Result.{Result}
 use Rattle.std.specs.declared.result.Result.the-variants.{Ok, Err}
 use Rattle.numlist.specs.Lists.{Meaning, most}
 use Rattle.numlist.specs.declared.fault.ListFault.{ListFault}
+use Rattle.numlist.specs.declared.refusal.CutRefused.{CutRefused}
 use Rattle.numlist.specs.declared.refusal.OpenRefused.{OpenRefused}
 use Rattle.numlist.specs.declared.refusal.WriteRefused.{WriteRefused}
 
@@ -33,3 +36,8 @@ judged (Err fault) = Err (OpenRefused.Faulty fault)
 -- the answer to the wish to open bytes as m numbers
 abbrev pub open-answer : Meaning → List ℕ → ℕ → Result ℕ OpenRefused
 open-answer L bytes m = cond (leb m most) (judged (L .verdict bytes m)) (Err OpenRefused.TooMany)
+
+-- why a cut of so many bits over a list of this reach is not made
+abbrev pub cut-refusal : ℕ → ℕ → Option CutRefused
+cut-refusal bits reach =
+    cond (leb 1 bits && leb bits 16) (cond (leb (bits + reach) 64) None (Some CutRefused.Reach)) (Some CutRefused.Width)

@@ -4,3 +4,4 @@ pub mod Parts
 pub mod Cuts
 pub mod Refusals
 pub mod Calls
+pub mod Placed

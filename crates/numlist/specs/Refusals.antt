@@ -1,5 +1,6 @@
 -- The number of each refusal.
 use Prim.Native.Nat.{ℕ}
+use Rattle.numlist.specs.declared.refusal.CutRefused.{CutRefused}
 use Rattle.numlist.specs.declared.refusal.OpenRefused.{OpenRefused}
 use Rattle.numlist.specs.declared.refusal.ReadRefused.{ReadRefused}
 use Rattle.numlist.specs.declared.refusal.WriteRefused.{WriteRefused}
@@ -17,3 +18,7 @@ abbrev pub read-number : ReadRefused → ℕ
 read-number ReadRefused.TooMany = 11
 read-number ReadRefused.NoNumber = 11
 read-number (ReadRefused.Faulty fault) = 13
+
+abbrev pub cut-number : CutRefused → ℕ
+cut-number CutRefused.Width = 10
+cut-number CutRefused.Reach = 11

@@ -55,7 +55,7 @@ pub trait NumberList {
     /// The bytes of the string of `m` numbers with which bytes begin, or their first fault.
     fn judge(&self, bytes: &[u8], m: usize) -> Result<usize, ListFault>
         requires { ⌜ m ≤ most ⌝ }
-        ensures level { λ r. ⌜ elim r [ Ok _ ↦ Unit {0} | Err fault ↦ fault .level < meaning (now (self .entry)) .reach ] ⌝ }
+        ensures bound { λ r. ⌜ elim r [ Ok n ↦ n ≤ length (now (bytes .entry)) | Err fault ↦ fault .level < meaning (now (self .entry)) .reach ] ⌝ }
         ensures verdict { λ r. ⌜ (meaning (now (self .entry)) .reach ≤ 64 → r ≡ meaning (now (self .entry)) .verdict (now (bytes .entry)) m) ⌝ };
 
     /// Whether none of the `m` numbers of a string is 0.

@@ -1,6 +1,6 @@
 //! Why a number list refuses a call.
 ghost use mathlib.Core.Path.{_≡_};
-ghost use Rattle.numlist.specs.Refusals.{write-number, open-number, read-number};
+ghost use Rattle.numlist.specs.Refusals.{write-number, open-number, read-number, cut-number};
 use crate::ListFault;
 
 /// Why numbers are not written.
@@ -37,6 +37,15 @@ pub enum ReadRefused {
 /// Why a list is not made: its own bits are too few or too many.
 #[derive(Clone, Copy)]
 pub struct WidthRefused;
+
+/// Why a cut is not made.
+#[derive(Clone, Copy)]
+pub enum CutRefused {
+    /// Its own bits are too few or too many.
+    Width,
+    /// It has more than 64 bits with the list below.
+    Reach,
+}
 
 impl WriteRefused {
     /// The number of this refusal.
@@ -82,5 +91,17 @@ impl WidthRefused {
         ensures { λ r. ⌜ r ≡ 10 ⌝ }
     {
         10
+    }
+}
+
+impl CutRefused {
+    /// The number of this refusal.
+    pub fn number(self) -> u8
+        ensures { λ r. ⌜ r ≡ cut-number self ⌝ }
+    {
+        match self {
+            CutRefused::Width => 10,
+            CutRefused::Reach => 11,
+        }
     }
 }
