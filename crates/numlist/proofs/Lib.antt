@@ -16,3 +16,4 @@ pub mod Marks
 pub mod CutPuts
 pub mod CutJudged
 pub mod CutReads
+pub mod Trips

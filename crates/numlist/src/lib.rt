@@ -6,6 +6,7 @@ mod list;
 mod parts;
 mod places;
 mod refusal;
+mod trip;
 
 pub use cut::Cut;
 pub use cut::CutLayout;
@@ -21,3 +22,4 @@ pub use refusal::OpenRefused;
 pub use refusal::ReadRefused;
 pub use refusal::WidthRefused;
 pub use refusal::WriteRefused;
+pub use trip::comes_back;

@@ -1,7 +1,7 @@
 use mathlib.Core.Path.{_≡_, sym, ap, subst, _∙_}
 use mathlib.Core.Bool.{cond}
 use mathlib.Core.List.{[], _∷_, _++_, append-nil}
-use Prim.Native.Nat.{_+_, _%_, _^_, _<_, _≤_}
+use Prim.Native.Nat.{ℕ, _+_, _%_, _^_, _<_, _≤_}
 use native.Mathlib.Nat.{zero-add, mod-eq-of-lt}
 use native.Mathlib.Omega.{arith}
 use lib.ListN.{length, length-map}
@@ -27,7 +27,7 @@ returns-then-tally-eq0 c =
       written = λ start xs seen ones within was.
           let ms = marks b xs in
           let ds = directory ms in
-          let count = length-map xs (λ x. cond (marked b x) 1 0) in
+          let count = length-map {B = ℕ} xs (λ x. cond (marked b x) 1 0) in
           let long = ap (λ l. length (xs ++ l)) one ∙ length-push xs y in
           let whole : length ms % 256 ≡ 0 = ap (λ n. n % 256) (count ∙ sym seen) ∙ c .if-tally-eq0 .taken in
           let fits : room 32 (length ds + 1) ≤ length start = omega (arith, length-directory ms, count, long, within, whole) in
@@ -50,7 +50,7 @@ returns-else-tally-eq0 c =
       seen = ap (λ l. old .seen + length l) (sym one);
       ones = ap (λ n. old .ones + n) (c .mark .ensures ∙ sym (zero-add (cond (marked b y) 1 0))) ∙ ap (λ l. old .ones + sum (marks b l)) (sym one);
       written = λ start xs seen ones within was.
-          let count = length-map xs (λ x. cond (marked b x) 1 0) in
+          let count = length-map {B = ℕ} xs (λ x. cond (marked b x) 1 0) in
           subst (Written 32 (old .pen) start (c .args .out .now))
           (sym (directory-same (marks b xs) (cond (marked b y) 1 0) (λ e. c .if-tally-eq0 .left (ap (λ n. n % 256) (seen ∙ sym count) ∙ e))) ∙ ap directory (sym (ap (λ l. marks b (xs ++ l)) one ∙ marks-push b xs y)))
           was;
