@@ -1,4 +1,6 @@
 //! The implicit Kd-tree: a list of elements, each part of which is cut in its middle, by x and by y in turn.
+#![tactic(auto)]
+
 mod same;
 mod tree;
 

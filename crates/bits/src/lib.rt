@@ -1,4 +1,6 @@
 //! Numbers of so many bits, packed into bytes.
+#![tactic(auto)]
+
 mod counting;
 mod pen;
 mod reading;

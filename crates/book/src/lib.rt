@@ -1,4 +1,6 @@
 //! The store behind the program's lines.
+#![tactic(auto)]
+
 mod page;
 mod refusal;
 mod reply;

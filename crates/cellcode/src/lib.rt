@@ -1,4 +1,6 @@
 //! Cells as numbers: where a cell lies from its parent cell.
+#![tactic(auto)]
+
 mod client;
 mod code;
 mod refusal;

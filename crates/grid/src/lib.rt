@@ -1,4 +1,6 @@
 //! The image grid and its cells.
+#![tactic(auto)]
+
 mod cell;
 mod grid;
 mod refusal;

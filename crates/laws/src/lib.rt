@@ -1,4 +1,6 @@
 //! What is proved of the layers together.
+#![tactic(auto)]
+
 mod worked;
 
 pub use worked::worked_examples;

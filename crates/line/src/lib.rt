@@ -1,4 +1,6 @@
 //! The lines of the program: from bytes to commands.
+#![tactic(auto)]
+
 mod command;
 mod lines;
 mod numbers;

@@ -1,4 +1,6 @@
 //! Measures: figures that are joined hit by hit, in any order.
+#![tactic(auto)]
+
 mod client;
 mod count;
 mod extent;

@@ -1,4 +1,6 @@
 //! Number lists: many numbers as one string of bytes.
+#![tactic(auto)]
+
 mod cut;
 mod fault;
 mod fixed;

@@ -1,4 +1,6 @@
 //! Piles of number lists that are chosen at run time.
+#![tactic(auto)]
+
 mod layer;
 mod pile;
 mod refusal;

@@ -1,4 +1,6 @@
 //! Selection in place: the element that order puts at a place is brought there.
+#![tactic(auto)]
+
 mod cells;
 mod element;
 mod partition;

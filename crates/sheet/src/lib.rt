@@ -1,4 +1,6 @@
 //! The sheet: the hits of one field, in memory that the caller lends.
+#![tactic(auto)]
+
 mod call;
 mod refusal;
 mod run;

@@ -1,4 +1,6 @@
 //! The packed spot: what a full sheet becomes.
+#![tactic(auto)]
+
 mod codes;
 mod make;
 mod packing;

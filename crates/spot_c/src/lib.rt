@@ -1,4 +1,6 @@
 //! The library for callers in C and Rust: exported functions on numbers and slices.
+#![tactic(auto)]
+
 mod codes;
 mod lists;
 mod packs;

@@ -1,4 +1,6 @@
 //! Reads commands from standard input and writes a reply to each.
+#![tactic(auto)]
+
 use book::{most_input, replies};
 use std::io::{Read, Write};
 
