@@ -1,5 +1,5 @@
 -- The test for the same cell tells equal cells. Assumes nothing.
-use Rattle.std.proofs.Common.{◌≡◌, true, eqb, refl, ap, ◌∙◌}
+use Rattle.std.proofs.Common.{◌≡◌, true, eqb, refl}
 use Rattle.std.proofs.lemmas.Bool.{and_parts, and_from, eqb-true, eq-eqb}
 use Rattle.grid.specs.Cells.{same}
 use Rattle.grid.specs.declared.cell.Cell.{Cell}

@@ -1,5 +1,5 @@
 -- How the counts of the hits change as a hit comes or goes. Assumes nothing.
-use Rattle.std.proofs.Common.{◌≡◌, ℕ, suc, ◌+◌, ◌-◌, ◌<◌, ◌≤◌, Bool, true, false, cond, List, [], ◌∷◌, ◌++◌, length, get_or, take, set, sum_by, count_by, sym, refl, ap, ◌∙◌, ⊎_elim, mul-zero, arith, length-set, length-take-le, get_or-take}
+use Rattle.std.proofs.Common.{◌≡◌, ℕ, ◌+◌, ◌-◌, ◌<◌, ◌≤◌, true, false, cond, List, [], ◌∷◌, ◌++◌, length, get_or, take, set, sum_by, sym, ap, ◌∙◌, ⊎_elim, mul-zero, arith, length-set, length-take-le, get_or-take}
 use lib.Seq.{take-set-lt, take-set-le}
 use Rattle.std.proofs.lemmas.List.Sums.{sum_by_push, sum_by-set, sum_by_more, get_or-le-sum_by}
 use Rattle.std.proofs.ByRecursion.{sum_by_le, All-from_get_or}
@@ -8,7 +8,7 @@ use Rattle.std.proofs.lemmas.Bool.{cases_lt}
 use Rattle.grid.specs.Cells.{same, count, origin}
 use Rattle.grid.specs.declared.cell.Cell.{Cell}
 use Rattle.grid.proofs.Sames.{same_equal}
-use Rattle.sheet.specs.Counts.{Counts, none, more, fewer}
+use Rattle.sheet.specs.Counts.{Counts, more, fewer}
 use Rattle.sheet.specs.Memory.{tally}
 
 -- counts are equal where they agree on every cell and on the number of hits

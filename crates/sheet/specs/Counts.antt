@@ -1,6 +1,6 @@
 -- A sheet by its calls: how often each cell is held, and what each call answers, from the grid's side, the number of
 -- places and the calls alone.
-use Rattle.std.specs.Prelude.{ℕ, ◌+◌, ◌-◌, min, max, Bool, cond, List, [], ◌∷◌, Some, None, Ok, Err, fold, Option, Result, nat_lt}
+use Rattle.std.specs.Prelude.{ℕ, ◌+◌, ◌-◌, min, max, cond, List, [], ◌∷◌, Some, None, Ok, Err, fold, Option, Result, nat_lt}
 use Rattle.grid.specs.Cells.{same, on}
 use Rattle.grid.specs.declared.cell.Cell.{Cell}
 use Rattle.sheet.specs.declared.call.Call.{Call}

@@ -11,10 +11,10 @@ sheet c = let s = c.args.self.now in record { within = s.within; most = s.most; 
 free : (c : After-add) → c.args.self.now.lent.held < room (places c.args.self.now.lent)
 free c = omega (arith, c.room.ensures)
 
-pub invariant-of-self : goal.invariant-of-self
-invariant-of-self c =
+pub invariant_of-self : goal.invariant_of-self
+invariant_of-self c =
     let k = put_kept _ _ c.add.new.self _ (sheet c) (sym c.if-not-has.ensures) (free c) c.add.ensures.held c.add.ensures.memory c.add.ensures.lent in
-    (k.within, (k.most, (k.placed, tt)))
+    record { within = k.within; most = k.most; placed = k.placed }
 
 pub returns : goal.returns
 returns c =

@@ -1,4 +1,3 @@
-use Rattle.std.proofs.Common.{◌≤◌}
 use Rattle.sheet.proofs.Running.{Ran}
 use Rattle.sheet.proofs.sheet.Sheet.run.Given as goal
 
