@@ -1,5 +1,5 @@
 -- The hits that calls leave, as a list, have the counts that the calls leave. Assumes nothing.
-use Rattle.std.proofs.Common.{◌≡◌, ℕ, ◌+◌, ◌<◌, Bool, true, false, cond, ltb, List, [], ◌∷◌, length, is_some, Some, None, fold, Option, sym, refl, ap, ◌∙◌, arith}
+use Rattle.std.proofs.Common.{◌≡◌, ℕ, ◌+◌, ◌<◌, Bool, true, false, cond, ltb, List, [], ◌∷◌, length, is_some, Some, None, fold, Option, refl, ap, ◌∙◌, arith}
 use Rattle.std.proofs.lemmas.List.Sums.{sum_by-cons}
 use Rattle.std.proofs.lemmas.Bool.{cond_both, cond-false, ltb-true, true≢false}
 use Rattle.grid.specs.Cells.{same, on, count}
@@ -75,6 +75,6 @@ pub tally_after : (side places : ℕ) (calls : List Call) → tally (hits_after 
 unfolding hits_after
 tally_after side places calls = tally_from side places [] calls
 
--- hits with the counts that calls leave have each cell as often as the list has it
-pub same_after : (side places : ℕ) (hs : List Cell) (calls : List Call) → tally hs ≡ counts side places calls → (c : Cell) → count c hs ≡ count c (hits_after side places calls)
-same_after side places hs calls counted c = ap (λ t. t.times c) (counted ∙ sym (tally_after side places calls))
+-- a cell is as often in the list as the calls leave it
+pub count-hits_after : (side places : ℕ) (calls : List Call) (c : Cell) → count c (hits_after side places calls) ≡ (counts side places calls).times c
+count-hits_after side places calls c = ap (λ t. t.times c) (tally_after side places calls)
