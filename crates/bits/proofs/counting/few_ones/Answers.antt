@@ -1,4 +1,4 @@
-use Rattle.std.proofs.Common.{◌≡◌, ℕ, ◌+◌, ◌-◌, drop, sum, sym, refl, ap, ◌∙◌, arith}
+use Rattle.std.proofs.Common.{◌≡◌, ℕ, ◌+◌, ◌-◌, drop, sum, sym, ap, ◌∙◌, arith}
 use Rattle.bits.specs.Packing.{digits, unpacked}
 use Rattle.bits.proofs.counting.few_ones.Goals as goal
 
@@ -8,18 +8,18 @@ returns c =
     let from = c.args.from in
     let count = c.args.count in
     let marks : ℕ → ℕ → ℕ = λ k p. sum (unpacked 1 k (drop p c.args.bytes.now)) in
-    let few = (c.if-not-are-four-words.ensures tt).0 in
-    let left-2 : c.saturating-sub.result - 64 ≡ c.saturating-sub-2.result = omega (arith, c.saturating-sub.ensures, c.saturating-sub-2.ensures) in
-    let left-3 : c.saturating-sub-2.result - 64 ≡ c.saturating-sub-3.result = omega (arith, c.saturating-sub-2.ensures, c.saturating-sub-3.ensures) in
-    let left-4 : c.saturating-sub-3.result - 64 ≡ 0 = omega (arith, c.saturating-sub-3.ensures, few) in
+    let few = (c.if-not-are_four_words.ensures tt).0 in
+    let left-2 : c.saturating_sub.result - 64 ≡ c.saturating_sub-2.result = omega (arith, c.saturating_sub.ensures, c.saturating_sub-2.ensures) in
+    let left-3 : c.saturating_sub-2.result - 64 ≡ c.saturating_sub-3.result = omega (arith, c.saturating_sub-2.ensures, c.saturating_sub-3.ensures) in
+    let left-4 : c.saturating_sub-3.result - 64 ≡ 0 = omega (arith, c.saturating_sub-3.ensures, few) in
     let at-2 : from + 8 + 8 ≡ from + 16 = omega arith in
     let at-3 : from + 16 + 8 ≡ from + 24 = omega arith in
-    let first : marks count from ≡ c.word-ones-first.result + marks c.saturating-sub.result (from + 8) =
-    c.word-ones-first.ensures.counted ∙ ap (λ k. c.word-ones-first.result + marks k (from + 8)) (sym c.saturating-sub.ensures) in
-    let second : marks c.saturating-sub.result (from + 8) ≡ c.word-ones-second.result + marks c.saturating-sub-2.result (from + 16) =
-    c.word-ones-second.ensures.counted ∙ (λ i. c.word-ones-second.result + marks (left-2 i) (at-2 i)) in
-    let third : marks c.saturating-sub-2.result (from + 16) ≡ c.word-ones-third.result + marks c.saturating-sub-3.result (from + 24) =
-    c.word-ones-third.ensures.counted ∙ (λ i. c.word-ones-third.result + marks (left-3 i) (at-3 i)) in
-    let last : marks c.saturating-sub-3.result (from + 24) ≡ c.word-ones-last.result + 0 =
-    c.word-ones-last.ensures.counted ∙ ap (λ k. c.word-ones-last.result + marks k (from + 24 + 8)) left-4 in
+    let first : marks count from ≡ c.word_ones-first.result + marks c.saturating_sub.result (from + 8) =
+    c.word_ones-first.ensures.counted ∙ ap (λ k. c.word_ones-first.result + marks k (from + 8)) (sym c.saturating_sub.ensures) in
+    let second : marks c.saturating_sub.result (from + 8) ≡ c.word_ones-second.result + marks c.saturating_sub-2.result (from + 16) =
+    c.word_ones-second.ensures.counted ∙ (λ i. c.word_ones-second.result + marks (left-2 i) (at-2 i)) in
+    let third : marks c.saturating_sub-2.result (from + 16) ≡ c.word_ones-third.result + marks c.saturating_sub-3.result (from + 24) =
+    c.word_ones-third.ensures.counted ∙ (λ i. c.word_ones-third.result + marks (left-3 i) (at-3 i)) in
+    let last : marks c.saturating_sub-3.result (from + 24) ≡ c.word_ones-last.result + 0 =
+    c.word_ones-last.ensures.counted ∙ ap (λ k. c.word_ones-last.result + marks k (from + 24 + 8)) left-4 in
     omega (arith, first, second, third, last)

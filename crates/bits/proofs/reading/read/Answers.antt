@@ -7,6 +7,6 @@ pub returns : goal.returns
 returns c =
     let at = c.args.at in
     let w = c.args.width.bits in
-    c.low-bits.ensures
+    c.low_bits.ensures
     ∙ (λ i. c.word.ensures i / 2 ^ (at % 8) % 2 ^ (c.bits.ensures.value i))
     ∙ field_of_word (value 8 c.args.bytes.now) at w c.args.width.high

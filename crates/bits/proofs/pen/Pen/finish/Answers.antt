@@ -10,5 +10,5 @@ returns-then-count-out c w start xs within was =
     let out = c.args.out.now in
     let count = (p.fill + 7) / 8 in
     let written : p.at + count - p.at ≡ count = omega arith in
-    let wrote = c.put-bytes.ensures ∙ ap (λ n. take p.at out ++ (digits 8 n p.bits ++ drop (p.at + count) out)) written in
-    written_all w p start out xs c.put-bytes.new.out count (are_bytes c.put-bytes.new.out c.type-inv.out) was refl wrote within
+    let wrote = c.put_bytes.ensures ∙ ap (λ n. take p.at out ++ (digits 8 n p.bits ++ drop (p.at + count) out)) written in
+    written_all w p start out xs c.put_bytes.new.out count (are_bytes c.put_bytes.new.out c.type_inv.out) was refl wrote within

@@ -5,5 +5,5 @@ use Rattle.bits.proofs.pen.Pen.push.Goals as goal
 
 pub returns : goal.returns
 returns c start xs =
-    subst (λ w. room w (length xs + 1) ≤ length start → Written w c.args.self start c.args.out.now xs → Written w c.push-bits.result start c.push-bits.new.out (xs ++ c.args.number % 2 ^ w ∷ []))
-    c.bits.ensures.value (c.push-bits.ensures.pushed start xs)
+    subst (λ w. room w (length xs + 1) ≤ length start → Written w c.args.self start c.args.out.now xs → Written w c.push_bits.result start c.push_bits.new.out (xs ++ c.args.number % 2 ^ w ∷ []))
+    c.bits.ensures.value (c.push_bits.ensures.pushed start xs)

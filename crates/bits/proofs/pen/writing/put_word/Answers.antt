@@ -10,5 +10,5 @@ returns c within =
     let at = c.args.at in
     let out = c.args.out.now in
     let eight : at + 8 - at ≡ 8 = omega arith in
-    let bytes = c.copy-from-slice.ensures.after ∙ c.to-le-bytes.ensures ∙ word_digits c.args.word in
+    let bytes = c.copy_from_slice.ensures.after ∙ c.to_le_bytes.ensures ∙ word_digits c.args.word in
     (refl, (λ i. put_mid at (eight i) out (bytes i)) ∙ ap (λ l. take at out ++ (digits 8 8 c.args.word ++ l)) (drop-drop 8 at out))
