@@ -1,5 +1,5 @@
 -- What is pushed of a part that may be absent. Assumes nothing.
-use Rattle.std.proofs.Common.{◌≡◌, ℕ, ◌+◌, ◌%◌, ◌^◌, Bool, true, false, cond, List, [], ◌∷◌, ◌++◌, length, Some, None, sum, Option, sym, refl, ap, ◌∙◌, append-nil, zero-add, pow_pos}
+use Rattle.std.proofs.Common.{◌≡◌, ℕ, ◌%◌, ◌^◌, Bool, true, false, cond, List, [], ◌∷◌, ◌++◌, length, Some, None, sum, Option, sym, refl, ap, ◌∙◌, append-nil, zero-add, pow_pos}
 use lib.ListN.{length-map}
 use Rattle.std.proofs.lemmas.Bool.{cond_both, lt-leb}
 use Rattle.numlist.specs.Parts.{listed, lows, marked, marks, directory}

@@ -4,16 +4,16 @@ use Rattle.numlist.specs.Parts.{above, part_of, listed}
 use Rattle.numlist.proofs.Aboves.{above_more, above-fewer, above_few}
 use Rattle.numlist.proofs.parts.count.Goals as goal
 
-step : (c : goal.After-count-one-count) → c.loop-number.count + c.count-one-count.result ≡ length (above c.args.skip (take (c.loop-number.number-index + 1) c.args.numbers.now))
+step : (c : goal.After-count_one-count) → c.loop-number.count + c.count_one-count.result ≡ length (above c.args.skip (take (c.loop-number.number-index + 1) c.args.numbers.now))
 step c =
     let i = c.loop-number.number-index in
     let xs = c.args.numbers.now in
     let k = c.args.skip in
-    (λ j. c.loop-number.invariant j + c.count-one-count.ensures j)
+    (λ j. c.loop-number.invariant j + c.count_one-count.ensures j)
     ∙ sym (ap length (above_more k xs i c.loop-number-test.true) ∙ length-append (above k (take i xs)) (listed (part_of k (get_or xs i 0))))
 
-pub overflow-add-count : goal.overflow-add-count
-overflow-add-count c =
+pub overflow_add-count : goal.overflow_add-count
+overflow_add-count c =
     let xs = c.args.numbers.now in
     omega (arith, step c, above-fewer c.args.skip xs (c.loop-number.number-index + 1), above_few c.args.skip xs)
 

@@ -10,9 +10,9 @@ pub returns : goal.returns
 returns c start xs within was =
     let w = c.args.width.bits in
     let all = xs ++ listed (part_of c.args.skip c.args.number) in
-    let same : lows w all ≡ lows w xs ++ cond c.is-there.result (c.bits-of.result % 2 ^ w ∷ []) [] =
+    let same : lows w all ≡ lows w xs ++ cond c.is_there.result (c.bits_of.result % 2 ^ w ∷ []) [] =
     ap (λ o. lows w (xs ++ listed o)) (sym c.part-rest.ensures)
-    ∙ lows_part w xs c.part-rest.result c.bits-of.result c.is-there.result c.bits-of.ensures c.is-there.ensures in
-    let long : length all ≡ length (lows w xs ++ cond c.is-there.result (c.bits-of.result % 2 ^ w ∷ []) []) = sym (length-map all (λ x. x % 2 ^ w)) ∙ ap length same in
-    subst (Written w c.push-if.result start c.push-if.new.out) (sym same)
-    (c.push-if.ensures start (lows w xs) (subst (λ n. room w n ≤ length start) long within) was)
+    ∙ lows_part w xs c.part-rest.result c.bits_of.result c.is_there.result c.bits_of.ensures c.is_there.ensures in
+    let long : length all ≡ length (lows w xs ++ cond c.is_there.result (c.bits_of.result % 2 ^ w ∷ []) []) = sym (length-map all (λ x. x % 2 ^ w)) ∙ ap length same in
+    subst (Written w c.push_if.result start c.push_if.new.out) (sym same)
+    (c.push_if.ensures start (lows w xs) (subst (λ n. room w n ≤ length start) long within) was)

@@ -16,8 +16,8 @@ loop-number-init c =
     let out = c.args.out.now in
     (ap length none, ap (λ l. sum (marks b l)) none, (λ within. subst (λ l. Written 32 c.new.result out out (directory (marks b l))) none (c.new.ensures 32 out)))
 
-pub push-entry-tally-requires : goal.push-entry-tally-requires
-push-entry-tally-requires c =
+pub push_entry-tally-requires : goal.push_entry-tally-requires
+push_entry-tally-requires c =
     let b = c.args.width.bits in
     let k = c.args.skip in
     let i = c.loop-number.number-index in
@@ -39,17 +39,17 @@ loop-number-preserved c =
     let new = listed (part_of k (get_or xs i 0)) in
     let more = above_more k xs i c.loop-number-test.true in
     let out = c.args.out.now in (
-      c.push-entry-tally.ensures.seen
+      c.push_entry-tally.ensures.seen
           ∙ ap (λ n. n + length new) c.loop-number.invariant.0
           ∙ sym (ap length more ∙ length-append ys new),
-      c.push-entry-tally.ensures.ones
+      c.push_entry-tally.ensures.ones
           ∙ ap (λ n. n + sum (marks b new)) c.loop-number.invariant.1
           ∙ sym (ap (λ l. sum (marks b l)) more ∙ sum-marks-append b ys new),
       (λ within.
           let fewer = above-fewer k xs (i + 1) in
           let enough : 4 * entries (length (above k (take (i + 1) xs))) ≤ length out = omega (arith, fewer, within) in
-          subst (λ l. Written 32 c.push-entry-tally.result.pen out c.push-entry-tally.new.out (directory (marks b l))) (sym more)
-          (c.push-entry-tally.ensures.written out ys c.loop-number.invariant.0 c.loop-number.invariant.1
+          subst (λ l. Written 32 c.push_entry-tally.result.pen out c.push_entry-tally.new.out (directory (marks b l))) (sym more)
+          (c.push_entry-tally.ensures.written out ys c.loop-number.invariant.0 c.loop-number.invariant.1
           (subst (λ l. 4 * entries (length l) ≤ length out) more enough) (c.loop-number.invariant.2 within))),
     )
 

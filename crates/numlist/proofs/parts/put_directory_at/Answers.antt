@@ -10,6 +10,6 @@ returns c front rest is long within =
     let out = c.args.out.now in
     let part = part_behind at out front rest is long in
     let amount = 4 * entries (length (above c.args.skip c.args.numbers.now)) in
-    put_behind at out front rest is long c.put-directory.new.out
-    ∙ ap (λ l. front ++ l) (c.put-directory.ensures (subst (λ l. 4 * entries (length (above c.args.skip c.args.numbers.now)) ≤ length l) (sym part) within)
+    put_behind at out front rest is long c.put_directory.new.out
+    ∙ ap (λ l. front ++ l) (c.put_directory.ensures (subst (λ l. 4 * entries (length (above c.args.skip c.args.numbers.now)) ≤ length l) (sym part) within)
     ∙ ap (λ l. packed 32 (directory (marks c.args.width.bits (above c.args.skip c.args.numbers.now))) ++ drop amount l) part)

@@ -22,8 +22,8 @@ loop-number-preserved c within =
     let more = above_more k xs i c.loop-number-test.true in
     let fits : room w (length (above k (take i xs) ++ listed (part_of k (get_or xs i 0)))) ≤ length c.args.out.now =
     subst (λ l. room w (length l) ≤ length c.args.out.now) more (le_trans (room_mono w (above-fewer k xs (i + 1))) within) in
-    subst (λ l. Written w c.push-low-pen.result c.args.out.now c.push-low-pen.new.out (lows w l)) (sym more)
-    (c.push-low-pen.ensures c.args.out.now (above k (take i xs)) fits (c.loop-number.invariant within))
+    subst (λ l. Written w c.push_low-pen.result c.args.out.now c.push_low-pen.new.out (lows w l)) (sym more)
+    (c.push_low-pen.ensures c.args.out.now (above k (take i xs)) fits (c.loop-number.invariant within))
 
 pub returns : goal.returns
 returns c within =

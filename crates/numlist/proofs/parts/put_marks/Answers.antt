@@ -22,8 +22,8 @@ loop-number-preserved c within =
     let more = above_more k xs i c.loop-number-test.true in
     let fits : room 1 (length (above k (take i xs) ++ listed (part_of k (get_or xs i 0)))) ≤ length c.args.out.now =
     subst (λ l. room 1 (length l) ≤ length c.args.out.now) more (le_trans (room_mono 1 (above-fewer k xs (i + 1))) within) in
-    subst (λ l. Written 1 c.push-mark-pen.result c.args.out.now c.push-mark-pen.new.out (marks w l)) (sym more)
-    (c.push-mark-pen.ensures c.args.out.now (above k (take i xs)) fits (c.loop-number.invariant within))
+    subst (λ l. Written 1 c.push_mark-pen.result c.args.out.now c.push_mark-pen.new.out (marks w l)) (sym more)
+    (c.push_mark-pen.ensures c.args.out.now (above k (take i xs)) fits (c.loop-number.invariant within))
 
 pub returns : goal.returns
 returns c within =

@@ -14,6 +14,6 @@ returns c =
     let place : at ≡ 8 * from + 32 * c.args.group = omega (arith, c.requires.placed.its_directory) in
     let is = c.read.ensures ∙ ap (λ w. value 8 bytes / 2 ^ at % 2 ^ w) c.count.ensures in
     record {
-      entry = is ∙ number_behind 32 (entries c.args.count) bytes from c.args.group at (are_bytes bytes c.type-inv.bytes) c.requires.inside place;
+      entry = is ∙ number_behind 32 (entries c.args.count) bytes from c.args.group at (are_bytes bytes c.type_inv.bytes) c.requires.inside place;
       small = subst (λ n. n < 2 ^ 32) (sym is) (mod-lt (value 8 bytes / 2 ^ at) (pow_pos 32));
     }

@@ -15,11 +15,11 @@ returns c =
     let g = c.args.group in
     let n = c.args.n in
     let place : c.args.places.marks + 32 * g ≡ from + 32 * g = omega (arith, c.requires.placed.its_marks) in
-    let is = c.few-ones.ensures ∙ ap (λ k. sum (unpacked 1 n (drop k bytes))) place ∙ ap (λ l. sum (unpacked 1 n l)) (sym (drop-drop (32 * g) from bytes)) in
-    let narrow = All-drop (λ x. x < 2 ^ 8) from bytes (are_bytes bytes c.type-inv.bytes) in
+    let is = c.few_ones.ensures ∙ ap (λ k. sum (unpacked 1 n (drop k bytes))) place ∙ ap (λ l. sum (unpacked 1 n l)) (sym (drop-drop (32 * g) from bytes)) in
+    let narrow = All-drop (λ x. x < 2 ^ 8) from bytes (are_bytes bytes c.type_inv.bytes) in
     record {
       counted =
           group_sum c.args.count (drop from bytes) g n narrow c.requires.inside
           ∙ ap (λ k. sum (take (256 * g) (marks_in c.args.width.bits bytes c.args.count)) + k) (sym is);
-      few = omega (arith, c.few-ones.ensures, marks-le n (value 8 (drop (c.args.places.marks + 32 * g) bytes)));
+      few = omega (arith, c.few_ones.ensures, marks-le n (value 8 (drop (c.args.places.marks + 32 * g) bytes)));
     }

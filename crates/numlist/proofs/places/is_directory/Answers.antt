@@ -11,8 +11,8 @@ use Rattle.numlist.specs.Directories.{length-directory, sum-narrow}
 use Rattle.numlist.proofs.Marks.{get_or-directory, next_group}
 use Rattle.numlist.proofs.places.is_directory.Goals as goal
 
-pub returns-then-entry-at-ones : goal.returns-then-entry-at-ones
-returns-then-entry-at-ones c =
+pub returns-then-entry_at-ones : goal.returns-then-entry_at-ones
+returns-then-entry_at-ones c =
     let b = c.args.width.bits in
     let m = c.args.count in
     let bytes = c.args.bytes.now in
@@ -21,8 +21,8 @@ returns-then-entry-at-ones c =
     let inside : g < entries (length ms) = omega (arith, length-unpacked 1 m (drop (marks_at b m) bytes)) in
     let here = get_or-directory ms g inside in
     ⊎_elim
-    (λ e. absurd (c.if-entry-at-ones.true
-    (c.entry-at.ensures.entry ∙ ap (λ l. get_or l g 0) ((bytes_eq-Decides (directory_in b bytes m) (directory ms)).0 e) ∙ here ∙ sym c.loop-group.invariant.0)))
+    (λ e. absurd (c.if-entry_at-ones.true
+    (c.entry_at.ensures.entry ∙ ap (λ l. get_or l g 0) ((bytes_eq-Decides (directory_in b bytes m) (directory ms)).0 e) ∙ here ∙ sym c.loop-group.invariant.0)))
     (λ e. sym e)
     (cases_Bool (bytes_eq (directory_in b bytes m) (directory ms)))
 
@@ -35,11 +35,11 @@ loop-group-preserved c =
     let g = c.loop-group.group in
     let long = length-unpacked 1 m (drop (marks_at b m) bytes) in
     let inside : g < entries (length ms) = omega (arith, long) in
-    let counted : c.loop-group.ones + c.group-ones-ones.result ≡ sum (take (256 * (g + 1)) ms) =
-    ap (λ n. n + c.group-ones-ones.result) c.loop-group.invariant.0
-    ∙ sym c.group-ones-ones.ensures.counted
+    let counted : c.loop-group.ones + c.group_ones-ones.result ≡ sum (take (256 * (g + 1)) ms) =
+    ap (λ n. n + c.group_ones-ones.result) c.loop-group.invariant.0
+    ∙ sym c.group_ones-ones.ensures.counted
     ∙ ap sum (next_group ms m g c.min-n.result long c.min-n.ensures) in
-    let here = sym c.entry-at.ensures.entry ∙ c.if-entry-at-ones.false ∙ c.loop-group.invariant.0 ∙ sym (get_or-directory ms g inside) in (
+    let here = sym c.entry_at.ensures.entry ∙ c.if-entry_at-ones.false ∙ c.loop-group.invariant.0 ∙ sym (get_or-directory ms g inside) in (
       counted,
       below_more _ _ c.loop-group.invariant.1 here,
       omega (arith, counted, sum_by-take-le (λ x. x) ms (256 * (g + 1)), sum-narrow ms (narrow-unpacked 1 m (drop (marks_at b m) bytes)), long),

@@ -16,7 +16,7 @@ returns c right =
     let long = length-unpacked 1 m (drop (marks_at b m) bytes) in
     let inside : g < entries (length ms) = omega (arith, long, c.requires.inside) in
     let place : 256 * g + i % 256 ≡ i = omega arith in
-    let entry = c.entry-at.ensures.entry ∙ ap (λ l. get_or l g 0) right ∙ get_or-directory ms g inside in
-    ap (λ n. n + c.group-ones.result) entry
-    ∙ sym c.group-ones.ensures.counted
+    let entry = c.entry_at.ensures.entry ∙ ap (λ l. get_or l g 0) right ∙ get_or-directory ms g inside in
+    ap (λ n. n + c.group_ones.result) entry
+    ∙ sym c.group_ones.ensures.counted
     ∙ ap (λ k. sum (take k ms)) place

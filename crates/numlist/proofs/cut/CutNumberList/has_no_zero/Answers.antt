@@ -7,4 +7,4 @@ returns g c n accepted =
     let s = c.args.self.now in
     let bytes = c.args.bytes.now in
     no_zeros s.width.bits (g.L.NumberList.meaning s.below) s.width.low (g.met.L.NumberList.sound s.below) bytes c.args.m n
-    (are_bytes bytes c.type-inv.bytes) c.requires accepted c.has-no-empty.result c.has-no-empty.ensures
+    (are_bytes bytes c.type_inv.bytes) c.requires accepted c.has_no_empty.result c.has_no_empty.ensures

@@ -11,12 +11,12 @@ returns-in-Ok g c =
     let m = c.args.m in
     let placed = c.place-places.ensures in
     let rest = rest_of b m bytes c.place-places.result.below placed.its_below in
-    let ones = c.all-ones-ones.ensures.counted in (
+    let ones = c.all_ones-ones.ensures.counted in (
       placed,
       omega (arith, placed.its_below),
       ones,
       subst (λ n. g.L.NumberList.laid c.args.self.now.below (below_in b bytes m) n c.in-Ok.below) ones
-          (subst (λ l. g.L.NumberList.laid c.args.self.now.below l c.all-ones-ones.result c.in-Ok.below) rest c.in-Ok.ensures),
+          (subst (λ l. g.L.NumberList.laid c.args.self.now.below l c.all_ones-ones.result c.in-Ok.below) rest c.in-Ok.ensures),
     )
 
 pub returns-in-Err : goal.returns-in-Err
@@ -26,6 +26,6 @@ returns-in-Err g c n accepted =
     let bytes = c.args.bytes.now in
     let m = c.args.m in
     let rest = rest_of b m bytes c.place-places.result.below c.place-places.ensures.its_below in
-    let ones = c.all-ones-ones.ensures.counted in
+    let ones = c.all_ones-ones.ensures.counted in
     let p = passed b L bytes m n accepted in
     c.in-Err.ensures p.taken ((λ i. L.verdict (rest i) (ones i)) ∙ p.accepted_below)

@@ -49,19 +49,19 @@ returns g c narrow within =
     let A = packed b ls in
     let B = packed 1 ms in
     let C = packed 32 (directory ms) in
-    let lows-done = c.put-lows.ensures room1 in
-    let marks-done = c.put-marks-at.ensures A R1 lows-done (lows_long b m ls ms count-ls count-ms ∙ at-marks) room2 in
-    let directory-done = c.put-directory-at.ensures (A ++ B) R2 (marks-done ∙ sym (append_assoc A B R2)) (marks_long b m ls ms count-ls count-ms ∙ at-directory) room3 in
+    let lows-done = c.put_lows.ensures room1 in
+    let marks-done = c.put_marks_at.ensures A R1 lows-done (lows_long b m ls ms count-ls count-ms ∙ at-marks) room2 in
+    let directory-done = c.put_directory_at.ensures (A ++ B) R2 (marks-done ∙ sym (append_assoc A B R2)) (marks_long b m ls ms count-ls count-ms ∙ at-directory) room3 in
     let whole = directory-done ∙ sym (append_assoc (A ++ B) C R3) in
     let own = own_long b m ls ms count-ls count-ms ∙ at-below in
     let at = c.place-places.result.below in
-    let rest = part_behind at c.put-directory-at.new.out (own_sections b m ls ms count-ls count-ms) R3 whole own ∙ behind_own b m ls ms count-ls count-ms out in
-    let numbers : above c.deeper.result xs ≡ parts b ys = ap (λ k. above k xs) c.deeper.ensures.value ∙ sym (parts_below b c.args.skip xs c.args.self.now.width.low (are_words xs c.type-inv.numbers)) in
+    let rest = part_behind at c.put_directory_at.new.out (own_sections b m ls ms count-ls count-ms) R3 whole own ∙ behind_own b m ls ms count-ls count-ms out in
+    let numbers : above c.deeper.result xs ≡ parts b ys = ap (λ k. above k xs) c.deeper.ensures.value ∙ sym (parts_below b c.args.skip xs c.args.self.now.width.low (are_words xs c.type_inv.numbers)) in
     let fits : length (L.string (parts b ys)) ≤ length (drop (below_at b m) out) = omega (arith, long, within, length-drop (below_at b m) out) in
     let done = c.put.ensures
     (subst (Narrow L.reach) (sym numbers) (narrow_parts b L.reach ys narrow))
-    (subst (λ l. length (L.string l) ≤ length (take (length c.put-directory-at.new.out - at) (drop at c.put-directory-at.new.out))) (sym numbers)
+    (subst (λ l. length (L.string l) ≤ length (take (length c.put_directory_at.new.out - at) (drop at c.put_directory_at.new.out))) (sym numbers)
     (subst (λ l. length string ≤ length l) (sym rest) fits)) in
-    put_behind at c.put-directory-at.new.out (own_sections b m ls ms count-ls count-ms) R3 whole own c.put.new.out
+    put_behind at c.put_directory_at.new.out (own_sections b m ls ms count-ls count-ms) R3 whole own c.put.new.out
     ∙ ap (λ l. own_sections b m ls ms count-ls count-ms ++ l) (done ∙ (λ i. L.string (numbers i) ++ drop (length (L.string (numbers i))) (rest i)))
     ∙ all_put b m ls ms count-ls count-ms string out

@@ -9,11 +9,11 @@ use Rattle.numlist.specs.CutVerdicts.{passed}
 use Rattle.numlist.specs.Directories.{sum-narrow}
 use Rattle.numlist.proofs.cut.CutNumberList.read_at.Goals as goal
 
-pub returns-then-mark-at-eq0 : goal.returns-then-mark-at-eq0
-returns-then-mark-at-eq0 g c n accepted =
+pub returns-then-mark_at-eq0 : goal.returns-then-mark_at-eq0
+returns-then-mark_at-eq0 g c n accepted =
     let s = c.args.self.now in
     ap Ok (read_unmarked s.width.bits (g.L.NumberList.meaning s.below) c.args.bytes.now c.args.m c.args.i c.requires.inside
-    c.low-at-low.result c.low-at-low.ensures.low c.low-at-low.type-inv (sym c.mark-at.ensures.mark ∙ c.if-mark-at-eq0.true))
+    c.low_at-low.result c.low_at-low.ensures.low c.low_at-low.type_inv (sym c.mark_at.ensures.mark ∙ c.if-mark_at-eq0.true))
 
 pub returns-then-place-layout : goal.returns-then-place-layout
 returns-then-place-layout g c n accepted =
@@ -23,11 +23,11 @@ returns-then-place-layout g c n accepted =
     let bytes = c.args.bytes.now in
     let p = passed b L bytes c.args.m n accepted in
     let rank = c.rank-place.ensures p.entries_same in
-    let inside = rank_inside b L bytes c.args.m c.args.i c.requires.inside (λ e. c.if-mark-at-eq0.false (c.mark-at.ensures.mark ∙ e)) in
+    let inside = rank_inside b L bytes c.args.m c.args.i c.requires.inside (λ e. c.if-mark_at-eq0.false (c.mark_at.ensures.mark ∙ e)) in
     absurd (omega (arith, rank, inside, c.if-place-layout.true, c.requires.laid.2))
 
-pub read-at-requires : goal.read-at-requires
-read-at-requires g c =
+pub read_at-requires : goal.read_at-requires
+read_at-requires g c =
     let s = c.args.self.now in
     let b = s.width.bits in
     let bytes = c.args.bytes.now in
@@ -59,9 +59,9 @@ returns-in-Ok g c n accepted =
     let high = ok-number c.in-Ok.high (get_or (L.numbers (take (length bytes - layout.places.below) (drop layout.places.below bytes)) layout.ones) c.rank-place.result 0 % 2 ^ 64) below
     ∙ (λ i. get_or (L.numbers (rest i) (laid.2 i)) c.rank-place.result 0 % 2 ^ 64) in
     let small : b < 64 = omega (arith, s.width.high) in
-    ap (λ w. Ok (bit_or c.low-at-low.result ((c.in-Ok.high * 2 ^ w) % 2 ^ 64))) c.bits.ensures.value
-    ∙ ap Ok (read_marked b L bytes m c.args.i c.requires.inside c.low-at-low.result c.in-Ok.high c.rank-place.result
-    c.low-at-low.ensures.low c.low-at-low.ensures.small small (λ e. c.if-mark-at-eq0.false (c.mark-at.ensures.mark ∙ e)) rank high)
+    ap (λ w. Ok (bit_or c.low_at-low.result ((c.in-Ok.high * 2 ^ w) % 2 ^ 64))) c.bits.ensures.value
+    ∙ ap Ok (read_marked b L bytes m c.args.i c.requires.inside c.low_at-low.result c.in-Ok.high c.rank-place.result
+    c.low_at-low.ensures.low c.low_at-low.ensures.small small (λ e. c.if-mark_at-eq0.false (c.mark_at.ensures.mark ∙ e)) rank high)
 
 pub returns-in-Err : goal.returns-in-Err
 returns-in-Err g c n accepted =

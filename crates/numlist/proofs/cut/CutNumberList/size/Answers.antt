@@ -13,7 +13,7 @@ returns g c =
     let b = c.args.self.now.width.bits in
     let L = g.L.NumberList.meaning c.args.self.now.below in
     let xs = c.args.numbers.now in
-    let long = cut_size b c.args.skip L xs c.args.self.now.width.low (are_words xs c.type-inv.numbers) in
+    let long = cut_size b c.args.skip L xs c.args.self.now.width.low (are_words xs c.type_inv.numbers) in
     let own : c.place-places.result.below ≡ below_at b (length (above c.args.skip xs)) = c.place-places.ensures.its_below ∙ ap (below_at b) c.count.ensures in
     let rest = c.size.ensures ∙ ap (λ k. min 18446744073709551615 (length (L.string (above k xs)))) c.deeper.ensures.value in
-    omega (arith, c.saturating-add.ensures, long, own, rest)
+    omega (arith, c.saturating_add.ensures, long, own, rest)

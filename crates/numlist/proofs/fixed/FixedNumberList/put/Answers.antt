@@ -11,5 +11,5 @@ returns c narrow within =
     let xs = above c.args.skip c.args.numbers.now in
     let out = c.args.out.now in
     let long = length-packed w xs in
-    c.put-lows.ensures (subst (λ n. n ≤ length out) long within)
+    c.put_lows.ensures (subst (λ n. n ≤ length out) long within)
     ∙ (λ i. packed w (lows-narrow w xs narrow i) ++ drop (sym long i) out)
