@@ -7,7 +7,7 @@ use Rattle.numlist.specs.Cuts.{cut}
 use Rattle.numlist.specs.Fixed.{fixed}
 use Rattle.numlist.specs.Lists.{Meaning}
 use Rattle.numlist.specs.declared.refusal.CutRefused.{CutRefused}
-use Rattle.pile.specs.Piles.{grown, unless, of_cut, pile_of}
+use Rattle.pile.specs.Piles.{grown, unless, pile_of}
 use Rattle.pile.specs.declared.refusal.PileRefused.{PileRefused}
 
 abbrev Made : Type 0

@@ -1,5 +1,4 @@
 -- A layer is a sound list over any sound list. Assumes nothing.
-use Rattle.std.specs.Prelude.{ℕ}
 use Rattle.numlist.specs.Lists.{Meaning, Sound}
 use Rattle.numlist.specs.CutSound.{cut_sound}
 use Rattle.pile.specs.Layers.{layered}

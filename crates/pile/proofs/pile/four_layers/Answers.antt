@@ -11,7 +11,7 @@ means s = fixed s.width.bits
 
 pub returns-in-Ok : goal.returns-in-Ok
 returns-in-Ok c =
-    grown_twice 2 2 0 2 c.args.cuts.now (means c.args.fixed) (layered (layered means)) (layered (layered (layered (layered means)))) c.in-Ok.lower c.two-layers-in-Ok.result refl c.in-Ok.ensures c.two-layers-in-Ok.ensures
+    grown_twice 2 2 0 2 c.args.cuts.now (means c.args.fixed) (layered (layered means)) (layered (layered (layered (layered means)))) c.in-Ok.lower c.two_layers-in-Ok.result refl c.in-Ok.ensures c.two_layers-in-Ok.ensures
 
 pub returns-in-Err : goal.returns-in-Err
 returns-in-Err c =

@@ -21,4 +21,4 @@ pub returns-in-Err : goal.returns-in-Err
 returns-in-Err g c n m one =
     let cuts = c.args.cuts.now in
     grown-refused (g.L.NumberList.meaning c.args.list) cuts c.args.i n m one (get_or cuts c.args.i 0) c.in-Err.refusal refl c.if-i-cuts.false c.in-Err.ensures
-    ∙ ap Err (sym c.of-cut.ensures)
+    ∙ ap Err (sym c.of_cut.ensures)
