@@ -1,4 +1,3 @@
-use Rattle.std.proofs.Common.{refl}
 use Rattle.cellcode.specs.Codes.{ComesBack}
 use Rattle.cellcode.proofs.Codes.{decodes_again}
 use Rattle.cellcode.specs.Ons.{from_to_allowed}
@@ -16,5 +15,5 @@ comes_back g c n found sent =
 pub returns : goal.returns
 returns g c =
     let law = comes_back g (goal.at.returns g c).After-encode in
-    let sent = c.in-ok-number.ensures in
+    let sent = c.in_ok-number.ensures in
     record { result = (sent.0, sent.1, law _ _ sent c.decode.ensures); law = law }

@@ -10,6 +10,6 @@ returns-then-number-root c = record {
 
 pub returns : goal.returns
 returns c = record {
-  ring = ring_of_root _ _ c.plain-root.ensures.root c.plain-root.ensures.next;
+  ring = ring_of_root _ _ c.plain_root.ensures.root c.plain_root.ensures.next;
   bound = omega arith;
 }

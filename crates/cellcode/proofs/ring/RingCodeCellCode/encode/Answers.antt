@@ -9,5 +9,5 @@ returns-then-d-eq0 c =
 
 pub returns : goal.returns
 returns c =
-    let number = ring-step c.args.grid.side c.max-d.result c.step-of.result c.args.parent c.args.cell (omega arith) (omega arith) (sym c.step-of.ensures) in
+    let number = ring-step c.args.grid.side c.max-d.result c.step_of.result c.args.parent c.args.cell (omega arith) (omega arith) (sym c.step_of.ensures) in
     (sym c.if-not-has.ensures, sym c.if-not-has-2.ensures, cc)
