@@ -1,7 +1,5 @@
 //! Times of the proved library beside plain Rust, in one run. Machines are noisy: the ratio is the figure to read.
 mod codes;
-mod lists;
-mod spots;
 
 use std::hint::black_box;
 use std::time::Instant;
@@ -9,8 +7,6 @@ use std::time::Instant;
 pub fn run() {
     println!("{:<28} {:>10} {:>10} {:>7}", "", "store ns", "plain ns", "ratio");
     codes::run();
-    lists::run();
-    spots::run();
 }
 
 /// The best times of many rounds in nanoseconds an item, the two sides in turn.

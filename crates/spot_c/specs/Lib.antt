@@ -1,3 +1,1 @@
 pub mod Told
-pub mod Lists
-pub mod Spots

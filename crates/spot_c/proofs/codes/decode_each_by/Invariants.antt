@@ -1,5 +1,4 @@
-use Rattle.std.proofs.Common.{◌≡◌}
-use Rattle.spot_c.specs.Told.{cell_of_joined, encoded, Found}
+use Rattle.spot_c.specs.Told.{Found}
 use Rattle.spot_c.proofs.InPlace.{Replaced}
 use Rattle.spot_c.proofs.codes.decode_each_by.Given as goal
 
