@@ -9,7 +9,7 @@ loop-next-init g c = parted_none _ _ _
 
 pub loop-next-preserved : goal.loop-next-preserved
 loop-next-preserved g c =
-    parted_more _ _ c.index-part-next.result c.loop-next.invariant (omega arith) c.exchange.ensures c.index-part-next.is (c.from-border.ensures ∙ ap (λ b. bool_byte (not b)) c.is-before.ensures)
+    parted_more _ _ c.index-part-next.result c.loop-next.invariant (omega arith) c.exchange.ensures c.index-part-next.is (c.from-border.ensures ∙ ap (λ b. bool_byte (not b)) c.is_before.ensures)
 
 pub returns : goal.returns
 returns g c = parted_all _ (omega arith) c.loop-next.invariant

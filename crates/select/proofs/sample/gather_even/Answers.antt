@@ -14,8 +14,8 @@ loop-from-preserved g c = (
   omega arith,
 )
 
-pub overflow-add-end-in-loop-from : goal.overflow-add-end-in-loop-from
-overflow-add-end-in-loop-from g c = omega arith
+pub overflow_add-end-in-loop-from : goal.overflow_add-end-in-loop-from
+overflow_add-end-in-loop-from g c = omega arith
 
 pub loop-from-smaller : goal.loop-from-smaller
 loop-from-smaller g c = omega arith

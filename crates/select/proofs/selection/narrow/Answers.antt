@@ -23,12 +23,12 @@ returns-then-middle-window g c = record {
 
 pub returns-then-at-border : goal.returns-then-at-border
 returns-then-at-border g c = record {
-  narrowed = narrowed_level g.met.E.Element.total c.args.axis _ c.halve-middle.ensures _ c.index-part-middle.is (omega arith) c.gather-level-border.ensures (omega arith) (omega arith);
+  narrowed = narrowed_level g.met.E.Element.total c.args.axis _ c.halve-middle.ensures _ c.index-part-middle.is (omega arith) c.gather_level-border.ensures (omega arith) (omega arith);
   smaller = λ h. omega arith;
 }
 
 pub returns : goal.returns
 returns g c = record {
-  narrowed = narrowed_behind g.met.E.Element.total c.args.axis _ c.halve-middle.ensures _ c.index-part-middle.is (omega arith) c.gather-level-border.ensures (omega arith) (omega arith);
-  smaller = λ h. omega (arith, c.halve-middle.ensures.from, c.gather-level-border.ensures.from);
+  narrowed = narrowed_behind g.met.E.Element.total c.args.axis _ c.halve-middle.ensures _ c.index-part-middle.is (omega arith) c.gather_level-border.ensures (omega arith) (omega arith);
+  smaller = λ h. omega (arith, c.halve-middle.ensures.from, c.gather_level-border.ensures.from);
 }
