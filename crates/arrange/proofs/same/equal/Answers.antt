@@ -5,7 +5,7 @@ use Rattle.arrange.proofs.same.equal.Goals as goal
 
 pub loop-i-preserved : goal.loop-i-preserved
 loop-i-preserved g c =
-    level-more g.E.Element.before g.met.E.Element.total c.args.a.now c.args.b.now c.loop-i.i _ _ (omega arith) (omega arith) c.index-a-i.is c.index-b-i.is c.if-not-is-level.ensures c.loop-i.invariant
+    level-more g.E.Element.before g.met.E.Element.total c.args.a.now c.args.b.now c.loop-i.i _ _ (omega arith) (omega arith) c.index-a-i.is c.index-b-i.is c.if-not-is_level.ensures c.loop-i.invariant
 
 pub returns : goal.returns
 returns g c =

@@ -2,8 +2,8 @@
 use Rattle.std.proofs.Common.{length}
 use Rattle.arrange.proofs.tree.+arrange_x_arrange_y.Given as goal
 
-abbrev pub decreases-arrange-x : goal.decreases-arrange-x
-decreases-arrange-x g l = length l.part.now
+abbrev pub decreases-arrange_x : goal.decreases-arrange_x
+decreases-arrange_x g l = length l.part.now
 
-abbrev pub decreases-arrange-y : goal.decreases-arrange-y
-decreases-arrange-y g l = length l.part.now
+abbrev pub decreases-arrange_y : goal.decreases-arrange_y
+decreases-arrange_y g l = length l.part.now

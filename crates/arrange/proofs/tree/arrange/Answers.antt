@@ -1,7 +1,7 @@
+-- What arranges the elements is their tree.
+use Rattle.std.proofs.Common.{rules}
 use Rattle.arrange.proofs.Computing.{arranges_tree}
 use Rattle.arrange.proofs.tree.arrange.Goals as goal
 
-pub returns : goal.returns
-returns g c =
-    let done = c.arrange-x.ensures in
-    record { arranges = done; is = arranges_tree _ g.met.E.Element.total _ _ _ done }
+pub returns-clause-is : goal.returns-clause-is
+returns-clause-is g c = search (rules, arranges_tree _ g.met.E.Element.total)
