@@ -3,4 +3,4 @@ use Rattle.measure.proofs.Plain.{counted}
 use Rattle.measure.proofs.count.Count.of.Goals as goal
 
 pub returns : goal.returns
-returns c = c.figure-of.ensures.value ∙ counted _
+returns c = c.figure_of.ensures.value ∙ counted _

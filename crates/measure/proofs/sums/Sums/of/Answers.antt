@@ -3,4 +3,4 @@ use Rattle.measure.proofs.Plain.{summed}
 use Rattle.measure.proofs.sums.Sums.of.Goals as goal
 
 pub returns : goal.returns
-returns c = c.figure-of.ensures.value ∙ summed _
+returns c = c.figure_of.ensures.value ∙ summed _
