@@ -1,4 +1,5 @@
 pub mod Tallies
 pub mod Calls
 pub mod Running
+mod Arranging
 pub mod Holding

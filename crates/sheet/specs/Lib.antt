@@ -1,5 +1,6 @@
 pub mod Counts
 pub mod Memory
 pub mod Held
+pub mod Arranged
 pub mod Refusals
 pub mod Runs

@@ -7,6 +7,7 @@ ghost use Rattle.sheet.specs.Memory.{memory, places, hits, Finds};
 use grid::{Cell, Grid};
 
 mod calls;
+mod tree;
 
 /// The most hits that any sheet holds.
 const MOST_HITS: usize = 1_048_576;

@@ -9,11 +9,11 @@ use Rattle.sheet.proofs.sheet.Sheet.arrange.Goals.{After-arrange}
 sheet : (c : After-arrange) → Kept c.args.self.now.grid.side c.args.self.now.lent
 sheet c = let s = c.args.self.now in record { within = s.within; most = s.most; placed = s.placed }
 
-pub invariant-of-self : goal.invariant-of-self
-invariant-of-self c =
+pub invariant_of-self : goal.invariant_of-self
+invariant_of-self c =
     let done = c.arrange.ensures in
     let k = pack_kept _ _ c.arrange.new.self (sheet c) done.held done.tree done.behind done.lent done.places in
-    (k.within, (k.most, (k.placed, tt)))
+    record { within = k.within; most = k.most; placed = k.placed }
 
 pub returns : goal.returns
 returns c =
