@@ -91,6 +91,10 @@ impl<L: NumberList> NumberList for Cut<L> {
         (self.width.bits() + self.below.reach()).min(64)
     }
 
+    fn is_past_64(&self) -> bool {
+        self.width.bits() + self.below.reach() > 64
+    }
+
     fn size(&self, numbers: &[u64], skip: u32) -> usize {
         let places = place(self.width, count(numbers, skip));
         places

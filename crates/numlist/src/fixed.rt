@@ -71,6 +71,10 @@ impl NumberList for Fixed {
         self.width.bits()
     }
 
+    fn is_past_64(&self) -> bool {
+        false
+    }
+
     fn size(&self, numbers: &[u64], skip: u32) -> usize {
         room(self.width, count(numbers, skip))
     }

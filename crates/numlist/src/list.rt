@@ -1,5 +1,5 @@
 //! What every number list can do.
-ghost use Rattle.std.specs.Prelude.{◌≡◌, ℕ, ◌-◌, ◌%◌, ◌^◌, ◌<◌, ◌≤◌, min, List, ◌++◌, length, drop, is_ok, Ok, Err, ◌≢◌, slice_index};
+ghost use Rattle.std.specs.Prelude.{◌≡◌, ℕ, ◌-◌, ◌%◌, ◌^◌, ◌<◌, ◌≤◌, min, List, ◌++◌, length, drop, is_ok, nat_lt, Ok, Err, ◌≢◌, slice_index};
 ghost use Rattle.bits.specs.Packing.{Narrow};
 ghost use Rattle.numlist.specs.Calls.{write_answer, written, open_answer};
 ghost use Rattle.numlist.specs.Cuts.{nonzero};
@@ -28,6 +28,10 @@ pub trait NumberList {
     /// The most bits of a number, at most 64.
     fn reach(&self) -> u32
         ensures { result ≡ min 64 (meaning self.now).reach };
+
+    /// Whether a number may have more than 64 bits.
+    fn is_past_64(&self) -> bool
+        ensures { result ≡ nat_lt 64 (meaning self.now).reach };
 
     /// The bytes that the string of the numbers takes, or as many as can be told.
     fn size(&self, numbers: &[u64], skip: u32) -> usize

@@ -37,6 +37,13 @@ impl<L: NumberList> NumberList for Layer<L> {
         }
     }
 
+    fn is_past_64(&self) -> bool {
+        match self {
+            Layer::Bare(list) => list.is_past_64(),
+            Layer::Over(cut) => cut.is_past_64(),
+        }
+    }
+
     fn size(&self, numbers: &[u64], skip: u32) -> usize {
         match self {
             Layer::Bare(list) => list.size(numbers, skip),

@@ -1,5 +1,5 @@
 -- Hits that are arranged are the same hits. Assumes nothing.
-use Rattle.std.proofs.Common.{◌≡◌, ℕ, ◌+◌, ◌<◌, ◌≤◌, max, true, List, ◌++◌, length, get_or, take, drop, sym, refl, ap, ◌∙◌, subst, arith, length-append, length-drop, length-take-le, get_or-take}
+use Rattle.std.proofs.Common.{◌≡◌, ℕ, ◌≤◌, true, List, ◌++◌, length, take, drop, sym, ap, ◌∙◌, subst, arith, length-append, length-drop, length-take-le, get_or-take}
 use Rattle.std.specs.List.{AllByRecursion as All}
 use Rattle.std.proofs.ByRecursion.{All-get_or, All-from_get_or}
 use Rattle.std.proofs.lemmas.List.{take_at, drop_at}
@@ -9,7 +9,6 @@ use Rattle.select.specs.CellOrders.{before}
 use Rattle.select.specs.declared.element.Axis.TheVariants.{X}
 use Rattle.arrange.specs.Trees.{Arranges}
 use Rattle.arrange.proofs.Counted.{same-all}
-use Rattle.sheet.specs.Counts.{Counts}
 use Rattle.sheet.specs.Arranged.{Keeps}
 use Rattle.sheet.specs.Memory.{memory, places, hits, tally}
 use Rattle.sheet.specs.declared.sheet.Lent.{Lent}

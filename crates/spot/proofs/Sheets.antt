@@ -1,9 +1,8 @@
 -- What every sheet holds: few hits, all on its grid. Assumes nothing.
-use Rattle.std.proofs.Common.{◌≡◌, ℕ, ◌≤◌, true, leb, List, length, sym, ap, ◌∙◌, subst, arith, length-take-le, get_or-take}
+use Rattle.std.proofs.Common.{◌≡◌, ◌≤◌, true, length, ap, ◌∙◌, arith, length-take-le, get_or-take}
 use Rattle.std.proofs.lemmas.Bool.{and_from, le-leb}
 use Rattle.grid.specs.Cells.{on, origin}
 use Rattle.grid.specs.Sides.{allowed}
-use Rattle.grid.specs.declared.cell.Cell.{Cell}
 use Rattle.grid.specs.declared.grid.Grid.{Grid}
 use Rattle.sheet.specs.Memory.{memory, hits}
 use Rattle.sheet.specs.declared.sheet.Sheet.{Sheet}

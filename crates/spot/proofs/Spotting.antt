@@ -1,5 +1,5 @@
 -- Writing the spot of a tree: what is answered and what is left. Assumes nothing.
-use Rattle.std.proofs.Common.{◌≡◌, ℕ, ◌+◌, ◌-◌, ◌*◌, ◌%◌, ◌<◌, ◌≤◌, true, List, [], ◌∷◌, ◌++◌, length, take, drop, is_ok, Ok, Err, sym, refl, ap, ◌∙◌, subst, mod-eq_of_lt, mul-le-mul, arith, length-append, length-take-le}
+use Rattle.std.proofs.Common.{◌≡◌, ℕ, ◌+◌, ◌-◌, ◌*◌, ◌%◌, ◌<◌, ◌≤◌, true, List, [], ◌∷◌, ◌++◌, length, take, drop, is_ok, Ok, Err, sym, refl, ap, ◌∙◌, mod-eq_of_lt, mul-le-mul, arith, length-append, length-take-le}
 use borrow.Rule.Slice.PartMut.{put_mid}
 use Rattle.std.proofs.lemmas.Bool.{le-leb, lt-leb}
 use Rattle.grid.specs.Sides.{allowed}
@@ -8,7 +8,7 @@ use Rattle.bits.specs.Packing.{Narrow}
 use Rattle.bits.proofs.Packings.{length-packed}
 use Rattle.cellcode.specs.Codes.{CodeLaws}
 use Rattle.numlist.specs.Calls.{narrow, write_answer}
-use Rattle.numlist.specs.Lists.{Meaning, Sound, most}
+use Rattle.numlist.specs.Lists.{Sound, most}
 use Rattle.numlist.specs.declared.refusal.WriteRefused.{WriteRefused}
 use Rattle.numlist.proofs.Aboves.{narrow-true}
 use Rattle.spot.specs.Codes.{codes, root}

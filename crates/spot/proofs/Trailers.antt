@@ -1,5 +1,5 @@
 -- Six numbers that are pushed one after another are the bytes of a trailer. Assumes nothing.
-use Rattle.std.proofs.Common.{◌≡◌, ℕ, ◌%◌, ◌^◌, ◌<◌, List, [], ◌∷◌, ◌++◌, drop, sym, refl, ap, ◌∙◌, mod-eq_of_lt}
+use Rattle.std.proofs.Common.{◌≡◌, ℕ, ◌%◌, ◌^◌, ◌<◌, List, [], ◌∷◌, ◌++◌, drop, ap, ◌∙◌, mod-eq_of_lt}
 use Rattle.bits.specs.Packing.{packed, room}
 
 -- a number below 2^32 is its own lowest 32 bits

@@ -9,9 +9,6 @@ use numlist::NumberList;
 /// The bits that the codes of any cell code need.
 const CODE_BITS: u32 = 42;
 
-/// The most bits of any number.
-const MOST_BITS: u32 = 64;
-
 /// A cell code, a number list and the number by which both are known.
 #[derive(Clone, Copy)]
 pub struct Make<C, L> {
@@ -25,8 +22,7 @@ impl<C: CellCode + Copy, L: NumberList + Copy> Make<C, L> {
     pub fn new(code: C, list: L, number: u16) -> Result<Make<C, L>, MakeRefused>
         ensures { elim result [ Ok make ↦ Wide (making (C.CellCode.code code) (L.NumberList.meaning list) number) × (make.code ≡ code) × (make.list ≡ list) × (make.number ≡ number) | Err _ ↦ (Wide (making (C.CellCode.code code) (L.NumberList.meaning list) number) → ⊥) ] }
     {
-        let reach = list.reach();
-        if reach < CODE_BITS || reach > MOST_BITS {
+        if list.reach() < CODE_BITS || list.is_past_64() {
             return Err(MakeRefused);
         }
         Ok(Make { code, list, number })

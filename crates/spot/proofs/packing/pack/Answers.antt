@@ -30,8 +30,8 @@ asks sheet grid tree is on = (
   subst (λ l. AllOn grid.side l) (sym is) (subst (λ g. AllOn g.side (hits sheet.lent)) (sym on) (held_on sheet)),
 )
 
-pub write-spot-requires : goal.write-spot-requires
-write-spot-requires g c =
+pub write_spot-requires : goal.write_spot-requires
+write_spot-requires g c =
     let is = c.hits.ensures in
     let asked = asks c.arrange.new.self c.grid.result c.hits.result.now is c.grid.ensures in
     record {
@@ -56,10 +56,10 @@ returns g c =
     record {
       packs = λ wide.
           packs_written M sheet.grid.side (hits sheet.lent) (length c.args.scratch.now) out _ _ (omega (arith, c.held-held.ensures, c.if-scratch-held.false))
-          (c.write-spot.ensures.answer wide ∙ (λ i. spot_answer (spot M (grid i).side (tree i)) (length out)))
-          (c.write-spot.ensures.bytes wide ∙ (λ i. left_by (spot M (grid i).side (tree i)) out (is_ok c.write-spot.result)));
+          (c.write_spot.ensures.answer wide ∙ (λ i. spot_answer (spot M (grid i).side (tree i)) (length out)))
+          (c.write_spot.ensures.bytes wide ∙ (λ i. left_by (spot M (grid i).side (tree i)) out (is_ok c.write_spot.result)));
       fits = λ wide enough room.
-          ap is_ok (c.write-spot.ensures.answer wide)
+          ap is_ok (c.write_spot.ensures.answer wide)
           ∙ spot_fits M wide (g.met.C.CellCode.sound make.code) (g.met.L.NumberList.sound make.list) c.grid.result.side c.grid.result.low (side_fine c.grid.result) c.hits.result.now asked.0 asked.1 (length out)
           (subst (λ n. (n + 16) * (g.L.NumberList.meaning make.list).reach + 24 ≤ length out) (sym (ap length c.hits.ensures ∙ done.tree.long)) room);
       keeps = done.keeps;

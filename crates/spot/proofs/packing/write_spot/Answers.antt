@@ -7,10 +7,10 @@ use Rattle.spot.proofs.Sheets.{side_fine}
 use Rattle.spot.proofs.Spotting.{no_room, has_room, list_written, list_refused, trailer-is, bytes_left}
 use Rattle.spot.proofs.packing.write_spot.Given as given
 use Rattle.spot.proofs.packing.write_spot.Goals as goal
-use Rattle.spot.proofs.packing.write_spot.Goals.{After-put-codes}
+use Rattle.spot.proofs.packing.write_spot.Goals.{After-put_codes}
 
-pub put-codes-requires : goal.put-codes-requires
-put-codes-requires g c =
+pub put_codes-requires : goal.put_codes-requires
+put_codes-requires g c =
     let grid = c.args.grid in
     record {
       long = c.requires.long;
@@ -19,21 +19,21 @@ put-codes-requires g c =
     }
 
 -- the codes are then in the scratch
-coded : (g : given.Over) (c : After-put-codes g) → c.put-codes.new.out ≡ codes (g.C.CellCode.code c.args.make.now.code c.args.grid.side) c.args.tree.now
+coded : (g : given.Over) (c : After-put_codes g) → c.put_codes.new.out ≡ codes (g.C.CellCode.code c.args.make.now.code c.args.grid.side) c.args.tree.now
 coded g c =
     let tree = c.args.tree.now in
-    c.put-codes.ensures (length tree) (omega arith)
+    c.put_codes.ensures (length tree) (omega arith)
     ∙ ap (λ r. codes_to (length tree) (g.C.CellCode.code c.args.make.now.code c.args.grid.side) r tree) c.root-root.ensures
 
-pub returns-then-out-lt-TRAILER-BYTES : goal.returns-then-out-lt-TRAILER-BYTES
-returns-then-out-lt-TRAILER-BYTES g c =
+pub returns-then-out-lt-TRAILER_BYTES : goal.returns-then-out-lt-TRAILER_BYTES
+returns-then-out-lt-TRAILER_BYTES g c =
     let make = c.args.make.now in
     let grid = c.args.grid in
     let M = making (g.C.CellCode.code make.code) (g.L.NumberList.meaning make.list) make.number in
     record {
       answer = λ wide.
           no_room M wide (g.met.C.CellCode.sound make.code) (g.met.L.NumberList.sound make.list) grid.side grid.low (side_fine grid) c.args.tree.now c.requires.few c.requires.placed
-          (length c.args.out.now) (omega (arith, c.if-out-lt-TRAILER-BYTES.true));
+          (length c.args.out.now) (omega (arith, c.if-out-lt-TRAILER_BYTES.true));
       bytes = λ wide. refl;
     }
 
@@ -48,8 +48,8 @@ returns-in-Ok g c =
     let sound = g.met.L.NumberList.sound make.list in
     let n = c.in-Ok.length in
     let written = c.in-Ok.ensures in
-    let is = coded g (goal.at.returns-in-Ok g c).After-put-codes in
-    let room = c.if-out-lt-TRAILER-BYTES.false in
+    let is = coded g (goal.at.returns-in-Ok g c).After-put_codes in
+    let room = c.if-out-lt-TRAILER_BYTES.false in
     let told : (wide : Wide M) → (n ≡ length (code_bytes M grid.side tree)) × (n + 24 ≤ length out) =
     λ wide. list_written M wide laws sound grid.side grid.low (side_fine grid) tree c.requires.few c.requires.placed out _ is room n written.answer in
     record {
@@ -69,8 +69,8 @@ returns-in-Err g c =
     let laws = g.met.C.CellCode.sound make.code in
     let sound = g.met.L.NumberList.sound make.list in
     let refused = c.in-Err.ensures in
-    let is = coded g (goal.at.returns-in-Err g c).After-put-codes in
-    let room = c.if-out-lt-TRAILER-BYTES.false in
+    let is = coded g (goal.at.returns-in-Err g c).After-put_codes in
+    let room = c.if-out-lt-TRAILER_BYTES.false in
     record {
       answer = λ wide.
           no_room M wide laws sound grid.side grid.low (side_fine grid) c.args.tree.now c.requires.few c.requires.placed (length out)

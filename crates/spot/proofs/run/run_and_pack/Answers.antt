@@ -10,12 +10,12 @@ pub returns : goal.returns
 returns g c =
     let make = c.args.make.now in
     let M = making (g.C.CellCode.code make.code) (g.L.NumberList.meaning make.list) make.number in
-    let ran = c.run-new-sheet.ensures in
+    let ran = c.run_new-sheet.ensures in
     let calls = map call_of c.args.journal.now in
     record {
       packs = λ wide.
           subst (λ grid. Packs M grid.side (counts c.args.grid.side (length c.args.cells.now) calls) (length c.args.scratch.now) c.args.out.now c.pack.new.out c.pack.result) ran.grid
-          (subst (λ t. Packs M c.run-new-sheet.result.grid.side t (length c.args.scratch.now) c.args.out.now c.pack.new.out c.pack.result)
+          (subst (λ t. Packs M c.run_new-sheet.result.grid.side t (length c.args.scratch.now) c.args.out.now c.pack.new.out c.pack.result)
           (ran.counts ∙ ap (λ n. counts c.args.grid.side n calls) ran.places) (c.pack.ensures.packs wide));
       answers = ran.answers ∙ ap (λ n. answers c.args.grid.side n calls) ran.places;
       calls = ran.calls;
