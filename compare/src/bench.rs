@@ -1,5 +1,7 @@
 //! Times of the proved library beside plain Rust, in one run. Machines are noisy: the ratio is the figure to read.
 mod codes;
+mod lists;
+mod spots;
 
 use std::hint::black_box;
 use std::time::Instant;
@@ -7,6 +9,8 @@ use std::time::Instant;
 pub fn run() {
     println!("{:<28} {:>10} {:>10} {:>7}", "", "store ns", "plain ns", "ratio");
     codes::run();
+    lists::run();
+    spots::run();
 }
 
 /// The best times of many rounds in nanoseconds an item, the two sides in turn.

@@ -4,8 +4,11 @@
 //!     compare bench           times, side by side in one run, as ratios
 mod bench;
 mod codes;
+mod lists;
+mod packs;
 mod plain;
 mod random;
+mod shapes;
 mod store;
 
 use random::Random;
@@ -30,7 +33,10 @@ fn main() -> ExitCode {
 fn test(seed: u64) -> ExitCode {
     println!("seed {seed}");
     let mut random = Random::new(seed);
-    match compare("cell codes", codes::compare(&mut random)) {
+    let outcome = compare("cell codes", codes::compare(&mut random))
+        .and_then(|()| compare("number lists", lists::compare(&mut random)))
+        .and_then(|()| compare("packed spots", packs::compare(&mut random)));
+    match outcome {
         Ok(()) => ExitCode::SUCCESS,
         Err(difference) => {
             println!("DIFFERENCE: {difference}\nreplay it with: compare test {seed}");

@@ -1,5 +1,8 @@
 //! The proved library through its exported functions. Nothing checks these declarations against the Rattle sources, so
 //! they are few, and each is wrapped by a safe function at once.
+pub mod lists;
+pub mod spots;
+
 use crate::plain::codes::{Cell, Code};
 
 unsafe extern "C" {

@@ -1,1 +1,4 @@
 pub mod InPlace
+pub mod Lookups
+pub mod TwoCuts
+pub mod Puts

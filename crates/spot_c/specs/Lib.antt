@@ -1,1 +1,3 @@
 pub mod Told
+pub mod Lists
+pub mod Spots

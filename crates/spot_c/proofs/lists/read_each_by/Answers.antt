@@ -1,15 +1,15 @@
 use Rattle.std.proofs.Common.{refl, inr, arith}
 use Rattle.spot_c.proofs.lists.read_each_by.Goals as goal
 
-pub returns-then-count-gt-MOST-NUMBERS : goal.returns-then-count-gt-MOST-NUMBERS
-returns-then-count-gt-MOST-NUMBERS g c wide = record {
+pub returns-then-count-gt-MOST_NUMBERS : goal.returns-then-count-gt-MOST_NUMBERS
+returns-then-count-gt-MOST_NUMBERS g c wide = record {
   many = λ h. (refl, refl);
   accepted = λ n few fits. absurd (omega arith);
   others = λ few. absurd (omega arith);
 }
 
 pub returns-in-Ok : goal.returns-in-Ok
-returns-in-Ok g c wide = c.read-each-at.ensures wide
+returns-in-Ok g c wide = c.read_each_at.ensures wide
 
 pub returns-in-Err : goal.returns-in-Err
 returns-in-Err g c wide = record {

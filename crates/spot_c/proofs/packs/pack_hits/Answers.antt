@@ -16,7 +16,7 @@ all_put g c =
     sym (c.in-None.ensures.first ∙ (λ i. first_refusal (new.grid i).side (length (new.memory i)) (tally (new.hits i)) (puts c.args.hits.now)))
 
 -- the sheet that is packed holds the hits
-counted : (g : given.Over) (c : After-pack g) → tally (hits c.put-each.new.sheet.lent) ≡ hits_counts c.args.grid.side (length c.args.cells.now) c.args.hits.now
+counted : (g : given.Over) (c : After-pack g) → tally (hits c.put_each.new.sheet.lent) ≡ hits_counts c.args.grid.side (length c.args.cells.now) c.args.hits.now
 counted g c =
     let new = c.new-sheet.ensures in
     c.in-None.ensures.counts refl ∙ (λ i. counts_from (new.grid i).side (length (new.memory i)) (tally (new.hits i)) (puts c.args.hits.now))
@@ -28,7 +28,7 @@ returns-in-Ok g c wide =
     let same-grid = c.in-None.ensures.grid ∙ c.new-sheet.ensures.grid in
     packed-told M _ _ _ _ _ _ (Ok c.in-Ok.length) _ (all_put g a) refl
     (subst (λ grid. Packs M grid.side (hits_counts c.args.grid.side (length c.args.cells.now) c.args.hits.now) (length c.args.scratch.now) c.args.out.now c.pack.new.out (Ok c.in-Ok.length)) same-grid
-    (subst (λ t. Packs M c.put-each.new.sheet.grid.side t (length c.args.scratch.now) c.args.out.now c.pack.new.out (Ok c.in-Ok.length)) (counted g a) (c.in-Ok.ensures.packs wide)))
+    (subst (λ t. Packs M c.put_each.new.sheet.grid.side t (length c.args.scratch.now) c.args.out.now c.pack.new.out (Ok c.in-Ok.length)) (counted g a) (c.in-Ok.ensures.packs wide)))
 
 pub returns-in-Err : goal.returns-in-Err
 returns-in-Err g c wide =
@@ -37,4 +37,4 @@ returns-in-Err g c wide =
     let same-grid = c.in-None.ensures.grid ∙ c.new-sheet.ensures.grid in
     packed-told M _ _ _ _ _ _ (Err c.in-Err.refusal) _ (all_put g a) (ap (λ n. 9223372036854775808 + n) (c.from.ensures ∙ c.number.ensures))
     (subst (λ grid. Packs M grid.side (hits_counts c.args.grid.side (length c.args.cells.now) c.args.hits.now) (length c.args.scratch.now) c.args.out.now c.pack.new.out (Err c.in-Err.refusal)) same-grid
-    (subst (λ t. Packs M c.put-each.new.sheet.grid.side t (length c.args.scratch.now) c.args.out.now c.pack.new.out (Err c.in-Err.refusal)) (counted g a) (c.in-Err.ensures.packs wide)))
+    (subst (λ t. Packs M c.put_each.new.sheet.grid.side t (length c.args.scratch.now) c.args.out.now c.pack.new.out (Err c.in-Err.refusal)) (counted g a) (c.in-Err.ensures.packs wide)))

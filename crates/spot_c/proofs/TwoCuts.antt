@@ -1,5 +1,5 @@
 -- The pile of two cuts. Assumes nothing.
-use Rattle.std.proofs.Common.{◌≡◌, ℕ, zero, suc, ◌+◌, true, cond, List, [], ◌∷◌, length, get_or, None, Ok, Err, sym, refl, ap, ◌∙◌, subst, arith}
+use Rattle.std.proofs.Common.{◌≡◌, ℕ, ◌+◌, true, cond, List, [], ◌∷◌, length, get_or, None, Ok, Err, sym, refl, ap, ◌∙◌, subst, arith}
 use Rattle.bits.specs.Widths.{allowed}
 use Rattle.numlist.specs.Calls.{cut_refusal}
 use Rattle.numlist.specs.Cuts.{cut}

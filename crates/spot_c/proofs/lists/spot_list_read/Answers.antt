@@ -9,11 +9,11 @@ pub returns-in-Some : goal.returns-in-Some
 returns-in-Some c =
     let cuts = c.args.cuts.now in
     let made = ap (pile_of c.args.bits) (both_of cuts c.if-cuts-eq2.true) ∙ c.in-Some.ensures in
-    subst (λ m. PileReadTold m c.args.bytes.now c.args.count c.args.places.now c.read-each-by.new.places c.read-each-by.result) (sym made)
-    (c.read-each-by.ensures (pile_reach c.args.bits cuts _ made))
+    subst (λ m. PileReadTold m c.args.bytes.now c.args.count c.args.places.now c.read_each_by.new.places c.read_each_by.result) (sym made)
+    (c.read_each_by.ensures (pile_reach c.args.bits cuts _ made))
 
 pub returns-in-Ok : goal.returns-in-Ok
 returns-in-Ok c =
     let made = c.in-Ok.ensures in
-    subst (λ m. PileReadTold m c.args.bytes.now c.args.count c.args.places.now c.read-each-by-in-Ok.new.places c.read-each-by-in-Ok.result) (sym made.pile)
-    (c.read-each-by-in-Ok.ensures made.reach)
+    subst (λ m. PileReadTold m c.args.bytes.now c.args.count c.args.places.now c.read_each_by-in-Ok.new.places c.read_each_by-in-Ok.result) (sym made.pile)
+    (c.read_each_by-in-Ok.ensures made.reach)

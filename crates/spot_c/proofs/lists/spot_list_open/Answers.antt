@@ -5,5 +5,5 @@ use Rattle.spot_c.proofs.lists.spot_list_open.Goals as goal
 pub returns-in-Ok : goal.returns-in-Ok
 returns-in-Ok c =
     let made = c.in-Ok.ensures in
-    c.open-by.ensures made.reach
+    c.open_by.ensures made.reach
     ∙ ap (λ made. pile_open_told made c.args.bytes.now c.args.count) (sym made.pile)

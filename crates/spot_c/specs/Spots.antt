@@ -1,6 +1,5 @@
 -- What packing through the exported function tells and leaves.
 use Rattle.std.specs.Prelude.{◌≡◌, ℕ, zero, suc, Bool, true, false, cond, ◌&&◌, List, [], ◌∷◌, map, Some, None, Ok, Err, Option, Result, nat_le}
-use Rattle.grid.specs.Sides.{allowed}
 use Rattle.grid.specs.declared.cell.Cell.{Cell}
 use Rattle.cellcode.specs.Ring.{ring}
 use Rattle.cellcode.specs.Row.{row}

@@ -8,13 +8,13 @@ loop-i-init c = putting_none _ _ _
 pub loop-i-preserved : goal.loop-i-preserved
 loop-i-preserved c =
     let made = c.in-Ok.ensures in
-    putting_more c.loop-i.invariant (omega arith) _ c.cell_of_joined.ensures _ _ _ made.does made.grid
+    putting_more c.loop-i.invariant (omega arith) _ c.cell_of.ensures _ _ _ made.does made.grid
 
 pub returns-in-Err : goal.returns-in-Err
 returns-in-Err c =
     let made = c.in-Err.ensures in
     record {
-      first = putting_out c.loop-i.invariant (omega arith) _ c.cell_of_joined.ensures _ _ made.does;
+      first = putting_out c.loop-i.invariant (omega arith) _ c.cell_of.ensures _ _ made.does;
       counts = λ none. absurd (let z : ◌≡◌ {A = ℕ} 0 1 = cc in omega arith);
       grid = made.grid ∙ c.loop-i.invariant.grid;
     }

@@ -1,4 +1,4 @@
-use Rattle.std.proofs.Common.{◌%◌, ◌^◌, ◌<◌, length, get_or, sym, refl, ap, ◌∙◌, subst, inl, inr, arith}
+use Rattle.std.proofs.Common.{◌<◌, length, get_or, sym, refl, ◌∙◌, subst, inl, inr, arith}
 use Rattle.bits.proofs.Words.{are_bytes}
 use Rattle.numlist.proofs.Answering.{ok-number, never_both}
 use Rattle.spot_c.proofs.Lookups.{looked_none, looked_all, looked_out, looked_more, whole}
@@ -13,7 +13,7 @@ loop-k-preserved g c n wide accepted =
     let bytes = c.args.bytes.now in
     let m = c.args.count in
     let place = get_or c.loop-k.places c.loop-k.k 0 in
-    let begins = (g.met.L.NumberList.sound c.args.list.now).exactly bytes m n (are_bytes bytes c.type-inv.bytes) c.requires.few accepted in
+    let begins = (g.met.L.NumberList.sound c.args.list.now).exactly bytes m n (are_bytes bytes c.type_inv.bytes) c.requires.few accepted in
     let here : place < length (L.numbers bytes m) = subst (λ k. place < k) (sym begins.count) (omega arith) in
     looked_more _ _ _ _ _ (c.loop-k.invariant n wide accepted) (omega arith) _ (omega arith)
     (ok-number _ _ (c.in-Ok.ensures n accepted) ∙ whole L.reach (L.numbers bytes m) place wide begins.narrow here)
