@@ -1,6 +1,6 @@
 -- The computed tree arranges a list, and is the one list that does. Assumes nothing.
 use Rattle.std.proofs.Common.{◌≡◌, ℕ, zero, suc, ◌+◌, ◌<◌, ◌≤◌, Bool, true, false, List, [], ◌∷◌, ◌++◌, length, get_or, take, drop, count_by, sym, refl, ap, ◌∙◌, subst, ⊎_elim, arith, length-drop}
-use Rattle.std.specs.List.{AllByRecursion as All}
+use Rattle.std.specs.List.{AllByRecursion}
 use Rattle.std.proofs.ByRecursion.{All-weaker, All-get_or}
 use Rattle.std.proofs.lemmas.List.{length-take-le, drop_more}
 use Rattle.std.proofs.lemmas.Bool.{cases_Bool, both_ways, cond_both}
@@ -22,7 +22,7 @@ use Rattle.arrange.proofs.Spots.{often_cells}
 -- each element has none smaller behind it
 abbrev InOrder : {E : Type 0} → (E → E → Bool) → List E → Type 0
 InOrder before [] = Unit
-InOrder before (e ∷ es) = All (λ f. before f e ≡ false) es × InOrder before es
+InOrder before (e ∷ es) = AllByRecursion (λ f. before f e ≡ false) es × InOrder before es
 
 module _ {E : Type 0} (before : E → E → Bool) where
   count-insert : (test : E → Bool) (e : E) (es : List E) → count_by test (insert before e es) ≡ tick (test e) + count_by test es
@@ -39,11 +39,11 @@ module _ {E : Type 0} (before : E → E → Bool) where
   ordered_same (e ∷ es) test =
       omega (arith, ordered_same es test, count-cons test e es, count-insert test e (ordered before es))
 
-  all_insert : (P : E → Type 0) (e : E) (es : List E) → P e → All P es → All P (insert before e es)
+  all_insert : (P : E → Type 0) (e : E) (es : List E) → P e → AllByRecursion P es → AllByRecursion P (insert before e es)
   unfolding insert
   all_insert P e [] is all = (is, tt)
   all_insert P e (f ∷ fs) is all =
-      cond_both (before e f) (e ∷ f ∷ fs) (f ∷ insert before e fs) (All P) (λ _. (is, all)) (λ _. (all.0, all_insert P e fs is all.1))
+      cond_both (before e f) (e ∷ f ∷ fs) (f ∷ insert before e fs) (AllByRecursion P) (λ _. (is, all)) (λ _. (all.0, all_insert P e fs is all.1))
 
   -- of two places the later one has no smaller element
   in_order_places : (es : List E) → InOrder before es → (j k : ℕ) (d : E) → j < k → k < length es → before (get_or es k d) (get_or es j d) ≡ false

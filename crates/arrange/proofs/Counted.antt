@@ -1,6 +1,6 @@
 -- How many elements of a list pass a test, and what lists with the same elements share. Assumes nothing.
 use Rattle.std.proofs.Common.{◌≡◌, ℕ, ◌+◌, ◌<◌, Bool, true, false, cond, not, List, [], ◌∷◌, ◌++◌, length, count_by, sym, refl, ap, ◌∙◌, ⊎_elim, arith}
-use Rattle.std.specs.List.{AllByRecursion as All}
+use Rattle.std.specs.List.{AllByRecursion}
 use Rattle.std.proofs.ByRecursion.{All-weaker}
 use Rattle.std.proofs.lemmas.List.Sums.{sum_by-cons, sum_by-append}
 use Rattle.std.proofs.lemmas.Bool.{cases_Bool, cond-true, cond-false, not-false, not_from_true, not_from_false}
@@ -22,12 +22,12 @@ module _ {E : Type 0} (p : E → Bool) where
       count-append left (cut ∷ right) ∙ ap (λ n. count_by p left + n) (count-cons cut right)
 
   -- none passes
-  pub count_none : (xs : List E) → All (λ e. p e ≡ false) xs → count_by p xs ≡ 0
+  pub count_none : (xs : List E) → AllByRecursion (λ e. p e ≡ false) xs → count_by p xs ≡ 0
   count_none [] none = refl
   count_none (x ∷ xs) none =
       omega (arith, count-cons x xs, cond-false {A = ℕ} (p x) 1 0 none.0, count_none xs none.1)
 
-  pub none_from_count : (xs : List E) → count_by p xs ≡ 0 → All (λ e. p e ≡ false) xs
+  pub none_from_count : (xs : List E) → count_by p xs ≡ 0 → AllByRecursion (λ e. p e ≡ false) xs
   none_from_count [] zero = tt
   none_from_count (x ∷ xs) zero = (⊎_elim passes (λ no. no) (cases_Bool (p x)), none_from_count xs (omega (arith, count-cons x xs)))
     where
@@ -35,7 +35,7 @@ module _ {E : Type 0} (p : E → Bool) where
       passes is = absurd (omega (arith, count-cons x xs, cond-true {A = ℕ} (p x) 1 0 is))
 
   -- all pass
-  pub count-all : (xs : List E) → All (λ e. p e ≡ true) xs → count_by p xs ≡ length xs
+  pub count-all : (xs : List E) → AllByRecursion (λ e. p e ≡ true) xs → count_by p xs ≡ length xs
   count-all [] all = refl
   count-all (x ∷ xs) all =
       omega (arith, count-cons x xs, cond-true {A = ℕ} (p x) 1 0 all.0, count-all xs all.1)
@@ -55,7 +55,7 @@ module _ {E : Type 0} (p : E → Bool) where
       fails rest is = omega (arith, here, count-cons x xs, cond-false {A = ℕ} (p x) 1 0 is, cond-true {A = ℕ} (not (p x)) 1 0 (not_from_false (p x) is))
 
 -- tests that agree on each element of a list count the same
-pub count_same : {E : Type 0} (p q : E → Bool) (xs : List E) → All (λ e. p e ≡ q e) xs → count_by p xs ≡ count_by q xs
+pub count_same : {E : Type 0} (p q : E → Bool) (xs : List E) → AllByRecursion (λ e. p e ≡ q e) xs → count_by p xs ≡ count_by q xs
 count_same p q [] same = refl
 count_same p q (x ∷ xs) same =
     count-cons p x xs ∙ ap (λ b. tick b + count_by p xs) same.0 ∙ ap (λ n. tick (q x) + n) (count_same p q xs same.1) ∙ sym (count-cons q x xs)
@@ -64,7 +64,7 @@ count_same p q (x ∷ xs) same =
 pub same_length : {E : Type 0} (xs ys : List E) → SameElements xs ys → length xs ≡ length ys
 same_length {E} xs ys same = sym (all xs) ∙ same (λ e. true) ∙ all ys
   where
-    every : (zs : List E) → All (λ e. true ≡ true) zs
+    every : (zs : List E) → AllByRecursion (λ e. true ≡ true) zs
     every [] = tt
     every (z ∷ zs) = (refl, every zs)
 
@@ -72,11 +72,11 @@ same_length {E} xs ys same = sym (all xs) ∙ same (λ e. true) ∙ all ys
     all zs = count-all (λ e. true) zs (every zs)
 
 -- what no element of a list passes, none of the same elements passes
-pub same_none : {E : Type 0} (p : E → Bool) (xs ys : List E) → SameElements xs ys → All (λ e. p e ≡ false) xs → All (λ e. p e ≡ false) ys
+pub same_none : {E : Type 0} (p : E → Bool) (xs ys : List E) → SameElements xs ys → AllByRecursion (λ e. p e ≡ false) xs → AllByRecursion (λ e. p e ≡ false) ys
 same_none p xs ys same none = none_from_count p ys (sym (same p) ∙ count_none p xs none)
 
 -- what every element of a list passes, every one of the same elements passes
-pub same-all : {E : Type 0} (p : E → Bool) (xs ys : List E) → SameElements xs ys → All (λ e. p e ≡ true) xs → All (λ e. p e ≡ true) ys
+pub same-all : {E : Type 0} (p : E → Bool) (xs ys : List E) → SameElements xs ys → AllByRecursion (λ e. p e ≡ true) xs → AllByRecursion (λ e. p e ≡ true) ys
 same-all p xs ys same all =
     All-weaker _ _ (λ e. not-false (p e)) ys (same_none (λ e. not (p e)) xs ys same (All-weaker _ _ (λ e. not_from_true (p e)) xs all))
 

@@ -1,6 +1,6 @@
 -- An arranged list taken apart at its middle, and put together again. Assumes nothing.
 use Rattle.std.proofs.Common.{◌≡◌, ℕ, ◌+◌, ◌<◌, Bool, false, List, [], ◌∷◌, ◌++◌, length, get_or, take, drop, sym, refl, ap, ◌∙◌, subst, arith}
-use Rattle.std.specs.List.{AllByRecursion as All}
+use Rattle.std.specs.List.{AllByRecursion}
 use Rattle.std.proofs.lemmas.List.{take_at, drop_at, get_or_at, drop_more, take-append-drop, length-take-le, drop-drop}
 use Rattle.select.specs.declared.element.Axis.{Axis}
 use Rattle.arrange.specs.Trees.{Arranged, nothing, split, other, middle}
@@ -12,16 +12,16 @@ pub record Cut {E : Type 0} (before : Axis → E → E → Bool) (axis : Axis) (
   pub right : List E
   pub whole : xs ≡ left ++ cut ∷ right
   pub centred : length left ≡ middle (length xs)
-  pub lower : All (λ e. before axis cut e ≡ false) left
-  pub upper : All (λ e. before axis e cut ≡ false) right
+  pub lower : AllByRecursion (λ e. before axis cut e ≡ false) left
+  pub upper : AllByRecursion (λ e. before axis e cut ≡ false) right
   pub low_side : Arranged before (other axis) left
   pub high_side : Arranged before (other axis) right
 
 -- the same by places; d is read past the end, which never happens
 pub record Opened {E : Type 0} (before : Axis → E → E → Bool) (axis : Axis) (xs : List E) (d : E) : Type 0 where
   pub whole : xs ≡ take (middle (length xs)) xs ++ get_or xs (middle (length xs)) d ∷ drop (middle (length xs) + 1) xs
-  pub lower : All (λ e. before axis (get_or xs (middle (length xs)) d) e ≡ false) (take (middle (length xs)) xs)
-  pub upper : All (λ e. before axis e (get_or xs (middle (length xs)) d) ≡ false) (drop (middle (length xs) + 1) xs)
+  pub lower : AllByRecursion (λ e. before axis (get_or xs (middle (length xs)) d) e ≡ false) (take (middle (length xs)) xs)
+  pub upper : AllByRecursion (λ e. before axis e (get_or xs (middle (length xs)) d) ≡ false) (drop (middle (length xs) + 1) xs)
   pub low_side : Arranged before (other axis) (take (middle (length xs)) xs)
   pub high_side : Arranged before (other axis) (drop (middle (length xs) + 1) xs)
 
@@ -49,8 +49,8 @@ module _ {E : Type 0} {before : Axis → E → E → Bool} where
   pub opened : {axis : Axis} {xs : List E} → Arranged before axis xs → (d : E) → 0 < length xs → Opened before axis xs d
   opened {axis} {xs} a d some = record {
     whole = at_place xs (middle (length xs)) d (omega arith);
-    lower = subst (λ e. All (λ f. before axis e f ≡ false) (take (middle (length xs)) xs)) cut-is (subst (All (λ f. before axis c.cut f ≡ false)) left_is c.lower);
-    upper = subst (λ e. All (λ f. before axis f e ≡ false) (drop (middle (length xs) + 1) xs)) cut-is (subst (All (λ f. before axis f c.cut ≡ false)) right_is c.upper);
+    lower = subst (λ e. AllByRecursion (λ f. before axis e f ≡ false) (take (middle (length xs)) xs)) cut-is (subst (AllByRecursion (λ f. before axis c.cut f ≡ false)) left_is c.lower);
+    upper = subst (λ e. AllByRecursion (λ f. before axis f e ≡ false) (drop (middle (length xs) + 1) xs)) cut-is (subst (AllByRecursion (λ f. before axis f c.cut ≡ false)) right_is c.upper);
     low_side = subst (Arranged before (other axis)) left_is c.low_side;
     high_side = subst (Arranged before (other axis)) right_is c.high_side;
   }

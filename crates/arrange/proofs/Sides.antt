@@ -1,7 +1,7 @@
 -- A part whose middle is selected and whose sides are then arranged is arranged: by either axis. Assumes nothing.
 use Rattle.std.proofs.Common.{◌≡◌, ℕ, ◌+◌, ◌-◌, ◌<◌, ◌≤◌, Bool, false, List, [], ◌∷◌, ◌++◌, length, get_or, take, drop, count_by, sym, refl, ap, ◌∙◌, subst, arith, length-drop}
 use borrow.Rule.Slice.PartMut.{put_mid}
-use Rattle.std.specs.List.{AllByRecursion as All}
+use Rattle.std.specs.List.{AllByRecursion}
 use Rattle.std.proofs.ByRecursion.{All-from_get_or}
 use Rattle.std.proofs.lemmas.List.{append-nil, append_assoc, length-take-le, length_push, take_at, take_rest, drop_all, drop_more, get_or-take, get_or-drop}
 use Rattle.std.proofs.lemmas.Slice.{drop-append-drop}
@@ -82,13 +82,13 @@ module _ {E : Type 0} (before : Axis → E → E → Bool) (axis : Axis) (xs ys 
       long : length xs ≡ length (ls ++ get_or ys m d ∷ rs)
       long = same_length xs (ls ++ get_or ys m d ∷ rs) kept
 
-      lower : All (λ e. before axis (get_or ys m d) e ≡ false) (take m ys)
+      lower : AllByRecursion (λ e. before axis (get_or ys m d) e ≡ false) (take m ys)
       lower =
           All-from_get_or (λ e. before axis (get_or ys m d) e ≡ false) (take m ys) d (λ k h.
           let in_left : k < m = omega (arith, length-take-le m ys (omega (arith, selected.long))) in
           ap (before axis (get_or ys m d)) (get_or-take m ys k d in_left) ∙ (selected.settled inside).left k d in_left)
 
-      upper : All (λ e. before axis e (get_or ys m d) ≡ false) (drop (m + 1) ys)
+      upper : AllByRecursion (λ e. before axis e (get_or ys m d) ≡ false) (drop (m + 1) ys)
       upper =
           All-from_get_or (λ e. before axis e (get_or ys m d) ≡ false) (drop (m + 1) ys) d (λ k h.
           ap (λ e. before axis e (get_or ys m d)) (get_or-drop (m + 1) ys k d)

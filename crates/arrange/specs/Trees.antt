@@ -1,6 +1,6 @@
 -- The implicit Kd-tree: a list of elements in which each part has its cut in its middle.
 use Rattle.std.specs.Prelude.{◌≡◌, ℕ, ◌-◌, ◌/◌, Bool, false, not, ◌&&◌, List, [], ◌∷◌, ◌++◌, length, count_by}
-use Rattle.std.specs.List.{AllByRecursion as All}
+use Rattle.std.specs.List.{AllByRecursion}
 use Rattle.select.specs.Selections.{SameElements}
 use Rattle.select.specs.declared.element.Axis.{Axis}
 use Rattle.select.specs.declared.element.Axis.TheVariants.{X, Y}
@@ -21,8 +21,8 @@ pub data Arranged {E : Type 0} (before : Axis → E → E → Bool) : Axis → L
   split :
       (axis : Axis) (left : List E) (cut : E) (right : List E)
       → length left ≡ middle (length (left ++ cut ∷ right))
-      → All (λ e. before axis cut e ≡ false) left
-      → All (λ e. before axis e cut ≡ false) right
+      → AllByRecursion (λ e. before axis cut e ≡ false) left
+      → AllByRecursion (λ e. before axis e cut ≡ false) right
       → Arranged before (other axis) left
       → Arranged before (other axis) right
       → Arranged before axis (left ++ cut ∷ right)

@@ -1,6 +1,6 @@
 -- Numbers of w bits packed into bytes: one after another, from the least significant bit of the first byte on.
 use Rattle.std.specs.Prelude.{ℕ, zero, suc, ◌+◌, ◌*◌, ◌/◌, ◌%◌, ◌^◌, ◌<◌, List, [], ◌∷◌, length}
-use Rattle.std.specs.List.{AllByRecursion as All}
+use Rattle.std.specs.List.{AllByRecursion}
 
 -- the number that digits of w bits come to, the first digit being the least
 unfoldable pub value : ℕ → List ℕ → ℕ
@@ -14,7 +14,7 @@ digits w (suc k) n = n % 2 ^ w ∷ digits w k (n / 2 ^ w)
 
 -- each number has at most w bits
 abbrev pub Narrow : ℕ → List ℕ → Type 0
-Narrow w xs = All (λ x. x < 2 ^ w) xs
+Narrow w xs = AllByRecursion (λ x. x < 2 ^ w) xs
 
 -- the bytes that m numbers of w bits take, the last one filled up
 abbrev pub room : ℕ → ℕ → ℕ

@@ -1,6 +1,6 @@
 -- What the figures of the three measures supplied are, in plain words. Assumes nothing.
 use Rattle.std.proofs.Common.{◌≡◌, ℕ, ◌+◌, ◌*◌, ◌%◌, ◌^◌, List, [], ◌∷◌, length, sum_by, refl, arith}
-use Rattle.std.specs.List.{AllByRecursion as All}
+use Rattle.std.specs.List.{AllByRecursion}
 use Rattle.std.proofs.ByRecursion.{All-weaker}
 use Rattle.std.proofs.lemmas.List.Sums.{sum_by-cons}
 use Rattle.grid.specs.declared.cell.Cell.{Cell}
@@ -50,12 +50,12 @@ within_join b other c good lies rest = record {
   to_high = omega (arith, lies.to_high, rest.to_high);
 }
 
-all_inside : (hits : List Cell) → All (Inside (figure extents hits)) hits
+all_inside : (hits : List Cell) → AllByRecursion (Inside (figure extents hits)) hits
 unfolding figure
 all_inside [] = tt
 all_inside (c ∷ cs) = (inside_own (figure extents cs) c, All-weaker _ _ (inside_join (extents.one c) (figure extents cs)) cs (all_inside cs))
 
-within_all : (hits : List Cell) (other : Bounds) → extents.Good other → All (Inside other) hits → Within (figure extents hits) other
+within_all : (hits : List Cell) (other : Bounds) → extents.Good other → AllByRecursion (Inside other) hits → Within (figure extents hits) other
 unfolding figure
 within_all [] other good all = record { from_left = good.0; to_right = omega arith; from_low = good.1; to_high = omega arith }
 within_all (c ∷ cs) other good all = within_join (figure extents cs) other c good all.0 (within_all cs other good all.1)

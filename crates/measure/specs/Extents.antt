@@ -1,6 +1,6 @@
 -- The measure of how far the hits reach.
 use Rattle.std.specs.Prelude.{ℕ, ◌≤◌, min, max, List}
-use Rattle.std.specs.List.{AllByRecursion as All}
+use Rattle.std.specs.List.{AllByRecursion}
 use Rattle.grid.specs.declared.cell.Cell.{Cell}
 use Rattle.measure.specs.Measures.{Figures}
 use Rattle.measure.specs.declared.extent.Bounds.{Bounds}
@@ -34,5 +34,5 @@ pub record Within (a b : Bounds) : Type 0 where
 
 -- the smallest box that has every hit: every hit lies in it, and it lies in every other such box
 pub record Smallest (hits : List Cell) (b : Bounds) : Type 0 where
-  pub has : All (Inside b) hits
-  pub least : (other : Bounds) → extents.Good other → All (Inside other) hits → Within b other
+  pub has : AllByRecursion (Inside b) hits
+  pub least : (other : Bounds) → extents.Good other → AllByRecursion (Inside other) hits → Within b other

@@ -1,6 +1,6 @@
 -- Bytes that a cut accepts: what its tests say of them. Assumes nothing.
 use Rattle.std.specs.Prelude.{◌≡◌, ℕ, ◌+◌, ◌<◌, ◌≤◌, true, List, length, drop, Ok, Decides, nat_lt, refl}
-use Rattle.std.specs.List.{AllByRecursion as All}
+use Rattle.std.specs.List.{AllByRecursion}
 use Rattle.std.proofs.lemmas.Slice.Eq.{bytes_eq-Decides}
 use Rattle.std.proofs.lemmas.Bool.{and_parts, leb-true}
 use Rattle.std.proofs.lemmas.Bool.Decides.{Decides-ltb}
@@ -11,7 +11,7 @@ use Rattle.numlist.specs.Fixed.{filled}
 use Rattle.numlist.specs.Cuts.{marks_at, below_at, marks_in, directory_in, ones_in, below_in, highs_in, nonzero, verdict_of}
 use Rattle.numlist.specs.Verdicts.{passing_ok, below-ok}
 
-pub nonzero_decides : (hs : List ℕ) → Decides (nonzero hs) (All (λ h. 0 < h) hs)
+pub nonzero_decides : (hs : List ℕ) → Decides (nonzero hs) (AllByRecursion (λ h. 0 < h) hs)
 unfolding nonzero
 nonzero_decides hs = Decides-by_and (λ h. nat_lt 0 h) (λ h. 0 < h) nonzero (λ h. Decides-ltb 0 h) refl (λ _ _. refl) hs
 
@@ -23,7 +23,7 @@ pub record Passed (b : ℕ) (L : Meaning) (bytes : List ℕ) (m n : ℕ) : Type 
   pub entries_same : directory_in b bytes m ≡ directory (marks_in b bytes m)
   pub taken : ℕ
   pub accepted_below : L.verdict (below_in b bytes m) (ones_in b bytes m) ≡ Ok taken
-  pub positive : All (λ h. 0 < h) (highs_in b L bytes m)
+  pub positive : AllByRecursion (λ h. 0 < h) (highs_in b L bytes m)
   pub total : below_at b m + taken ≡ n
 
 pub passed : (b : ℕ) (L : Meaning) (bytes : List ℕ) (m n : ℕ) → verdict_of b L bytes m ≡ Ok n → Passed b L bytes m n

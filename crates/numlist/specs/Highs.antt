@@ -2,7 +2,7 @@
 use Rattle.std.specs.Prelude.{◌≡◌, ℕ, zero, suc, ◌+◌, ◌*◌, ◌/◌, ◌^◌, ◌<◌, ◌≤◌, true, false, cond, List, [], ◌∷◌, length, sum, filter, nat_le, refl}
 use Rattle.std.proofs.Common.{sym, ap, ◌∙◌, inl, inr, mod-lt, add_comm, zero-add, le-div_iff_mul-le, arith, lit<, pow_pos, pow-add, pow_mono, shr_lt, shr-shr}
 use Rattle.std.proofs.lemmas.List.{length-map}
-use Rattle.std.specs.List.{AllByRecursion as All}
+use Rattle.std.specs.List.{AllByRecursion}
 use Rattle.std.proofs.lemmas.Nat.{le-div}
 use Rattle.std.proofs.ByRecursion.{All-map, all_kept_by, All-weaker, kept_by_passes}
 use Rattle.std.proofs.lemmas.List.Sums.{sum-map, length-filter}
@@ -32,7 +32,7 @@ module _ (b : ℕ) where
       All-map (λ h. h < 2 ^ r) (λ x. x / 2 ^ b) (filter (marked b) xs)
       (all_kept_by (marked b) (λ x. x / 2 ^ b < 2 ^ r) xs (All-weaker (λ x. x < 2 ^ (b + r)) (λ x. x / 2 ^ b < 2 ^ r) high xs narrow))
 
-  pub positive_parts : (xs : List ℕ) → All (λ h. 0 < h) (parts b xs)
+  pub positive_parts : (xs : List ℕ) → AllByRecursion (λ h. 0 < h) (parts b xs)
   positive_parts xs =
       let high : (x : ℕ) → marked b x ≡ true → 0 < x / 2 ^ b =
       λ x e. let h = leb-true (2 ^ b) x e in le-div 1 x (2 ^ b) (pow_pos b) (omega arith)

@@ -7,7 +7,7 @@ use Rattle.std.proofs.Math.Nat.{mod-eq_of_lt}
 use native.Mathlib.Omega.{arith}
 use Rattle.std.proofs.Math.Arith.{digits_lt}
 use Rattle.std.proofs.Math.Pow.{split, low, high}
-use Rattle.std.specs.List.{AllByRecursion as All}
+use Rattle.std.specs.List.{AllByRecursion}
 use Rattle.std.proofs.lemmas.List.Sums.{sum_by-cons}
 use Rattle.std.proofs.lemmas.Bool.{cases_Bool, leb-false, le-leb, lt-leb}
 use Rattle.bits.specs.Packing.{Narrow}
@@ -78,7 +78,7 @@ module _ (b r : ℕ) where
 
   pub weave_woven :
       (ls ms hs : List ℕ) → Narrow b ls → Narrow 1 ms → length ls ≡ length ms → length hs ≡ sum ms
-      → All (λ h. 0 < h) hs → Narrow r hs → Woven b r ls ms hs (weave b ls ms hs)
+      → AllByRecursion (λ h. 0 < h) hs → Narrow r hs → Woven b r ls ms hs (weave b ls ms hs)
   unfolding weave
   weave_woven [] [] [] nl nm same count positive nh = record { low_parts = refl; its_marks = refl; high_parts = refl; narrow = tt }
   weave_woven [] [] (h ∷ hs) nl nm same count positive nh = absurd (omega arith)

@@ -1,6 +1,6 @@
 -- Hits that are arranged are the same hits. Assumes nothing.
 use Rattle.std.proofs.Common.{◌≡◌, ℕ, ◌≤◌, true, List, ◌++◌, length, take, drop, sym, ap, ◌∙◌, subst, arith, length-append, length-drop, length-take-le, get_or-take}
-use Rattle.std.specs.List.{AllByRecursion as All}
+use Rattle.std.specs.List.{AllByRecursion}
 use Rattle.std.proofs.ByRecursion.{All-get_or, All-from_get_or}
 use Rattle.std.proofs.lemmas.List.{take_at, drop_at}
 use Rattle.grid.specs.Cells.{on, same, origin}
@@ -36,7 +36,7 @@ module _ (side : ℕ) (old new : Lent) (sheet : Kept side old)
   old_long : length (hits old) ≡ old.held
   old_long = length-take-le old.held (memory old) sheet.within
 
-  all-on : All (λ c. on side c ≡ true) (hits new)
+  all-on : AllByRecursion (λ c. on side c ≡ true) (hits new)
   all-on =
       same-all (on side) (hits old) (hits new) tree.kept
       (All-from_get_or _ (hits old) origin (λ k h.
