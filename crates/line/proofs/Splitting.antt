@@ -1,7 +1,7 @@
 -- A line is read to its end, and the lines behind it are left. Assumes nothing.
 use Rattle.std.proofs.Common.{◌≡◌, ℕ, suc, ◌-◌, ◌<◌, ◌≤◌, cond, List, [], ◌∷◌, length, get_or, take, drop, Some, sym, refl, ap, ◌∙◌, ⊎_elim, arith, take_all}
 use Rattle.std.proofs.lemmas.Bool.{ne_eqb, cases_eq}
-use Rattle.line.specs.Pieces.{Pieces, pieces, piece_ends, piece_grows, without_empty_end, lines}
+use Rattle.line.specs.Pieces.{pieces, piece_ends, piece_grows, without_empty_end, lines}
 use Rattle.line.specs.Grammar.{understood}
 use Rattle.line.specs.Reading.{kept, continued, meaning, first_command, behind_first}
 use Rattle.line.specs.declared.reader.Reader.{Reader}

@@ -1,10 +1,10 @@
 -- The turns of the reader that do not follow by computing. Assumes nothing.
 use Rattle.std.proofs.Common.{◌≡◌, ℕ, ◌+◌, ◌-◌, ◌*◌, ◌<◌, ◌≤◌, Bool, true, false, cond, ◌&&◌, leb, List, [], ◌∷◌, ◌++◌, length, Some, None, Option, sym, refl, ap, ◌∙◌, append_assoc, le_trans, le_refl, arith}
 use Rattle.std.proofs.lemmas.Bool.{le-leb, lt-leb}
-use Rattle.line.specs.Pieces.{Pieces, pieces, piece_ends}
+use Rattle.line.specs.Pieces.{Pieces, piece_ends}
 use Rattle.line.specs.Grammar.{digits, value, followed, both, numbers, not_understood}
 use Rattle.line.specs.Reading.{joined_to, continued}
-use Rattle.line.specs.declared.reader.State.TheVariants.{Space, Digits}
+use Rattle.line.specs.declared.reader.State.TheVariants.{Digits}
 
 -- no command has so many numbers
 pub too_many : (letter : ℕ) (ns : List ℕ) (more : Option (List ℕ)) → 4 ≤ length ns → joined_to letter ns more ≡ not_understood

@@ -1,4 +1,4 @@
-use Rattle.std.proofs.Common.{◌≡◌, ℕ, ◌-◌, ◌<◌, false, eqb, List, [], ◌∷◌, length, get_or, take, drop, Some, sym, ap, ◌∙◌, subst, arith}
+use Rattle.std.proofs.Common.{◌≡◌, ℕ, ◌-◌, ◌<◌, false, eqb, List, ◌∷◌, length, get_or, take, drop, Some, sym, ap, ◌∙◌, subst, arith}
 use Rattle.std.proofs.lemmas.List.{nil_from_length}
 use Rattle.std.proofs.lemmas.Bool.{eqb-true, eqb-false}
 use Rattle.line.specs.Pieces.{lines}
@@ -14,9 +14,9 @@ some_left bs e = omega (arith, eqb-false _ 0 (sym e))
 taken_apart : (start bs : List ℕ) (r : Reader) → false ≡ eqb (length bs) 0 → Within start bs r → Within start (get_or bs 0 0 ∷ take (length bs - 1) (drop 1 bs)) r
 taken_apart start bs r e w = subst (λ l. Within start l r) (first_and_rest bs (some_left bs e)) w
 
-pub returns-then-is-empty : goal.returns-then-is-empty
-returns-then-is-empty c =
-    let none = nil_from_length c.args.self.now.rest.now (eqb-true _ 0 (sym c.if-is-empty.ensures)) in
+pub returns-then-is_empty : goal.returns-then-is_empty
+returns-then-is_empty c =
+    let none = nil_from_length c.args.self.now.rest.now (eqb-true _ 0 (sym c.if-is_empty.ensures)) in
     record {
       command = ap (λ l. first_command (lines l)) (sym none);
       behind = ap lines none ∙ ap (λ l. behind_first (lines l)) (sym none);
@@ -27,7 +27,7 @@ loop-byte-init c = within_none _ _ c.new-reader.ensures
 
 pub loop-byte-preserved : goal.loop-byte-preserved
 loop-byte-preserved c =
-    let step = c.in-default.ensures in
+    let step = c.in_default.ensures in
     within_more _ _ _ _ _ (taken_apart _ _ _ c.loop-byte-test.ensures c.loop-byte.invariant) step.0 step.1
 
 pub returns-in-Some : goal.returns-in-Some
@@ -44,5 +44,5 @@ returns c =
     let none = nil_from_length c.loop-byte.self.rest.now (eqb-true _ 0 (sym c.loop-byte-test.ensures)) in
     let start = c.args.self.now.rest.now in
     let ended = subst (λ l. Within start l c.loop-byte.reader) none c.loop-byte.invariant in
-    let done = input_ends _ _ (some_left start c.if-is-empty.ensures) ended in
+    let done = input_ends _ _ (some_left start c.if-is_empty.ensures) ended in
     record { command = ap Some c.end.ensures.command ∙ done.command; behind = ap lines none ∙ done.behind }
