@@ -1,4 +1,4 @@
-use Rattle.std.proofs.Common.{◌/◌, sym, subst, arith}
+use Rattle.std.proofs.Common.{sym, subst, arith}
 use Rattle.std.proofs.lemmas.Fmt.{decimal_digit, decimal_step, length-decimal-le}
 use Rattle.book.specs.Pages.{Wrote}
 use Rattle.book.proofs.Writing.{wrote_then}

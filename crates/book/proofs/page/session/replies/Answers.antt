@@ -9,16 +9,16 @@ use Rattle.book.proofs.Writing.{part_last, part_all, ended_len, ended_bytes}
 use Rattle.book.proofs.page.session.replies.Goals as goal
 
 pub open-requires : goal.open-requires
-open-requires c = omega (arith, few_lines c.new-lines.result.rest.now, ap length c.new-lines.ensures, c.read-part.ensures.few)
+open-requires c = omega (arith, few_lines c.new-lines.result.rest.now, ap length c.new-lines.ensures, c.read_part.ensures.few)
 
 -- the replies to a part of the input, as the text of a session
 session_of : (page after : Page) (bytes part : List ℕ) → bytes ≡ part → Wrote page (texts (from_start (lines bytes))) after → Wrote page (texts (from_start (lines part))) after
 session_of page after bytes part e wrote = subst (λ bs. Wrote page (texts (from_start (lines bs))) after) e wrote
 
 -- no grid was opened
-pub returns-in-default : goal.returns-in-default
-returns-in-default c =
-    let wrote = session_of _ _ _ _ (c.new-lines.ensures ∙ c.read-part.ensures.part) (part_all c.in-default.ensures.replied) in
+pub returns-in_default : goal.returns-in_default
+returns-in_default c =
+    let wrote = session_of _ _ _ _ (c.new-lines.ensures ∙ c.read_part.ensures.part) (part_all c.in_default.ensures.replied) in
     record { len = ended_len _ _ _ _ refl refl wrote _ c.len.ensures; bytes = ended_bytes _ _ _ _ refl refl wrote _ (search rules) }
 
 -- the replies up to the grid, and then those on it
@@ -28,5 +28,5 @@ returns c =
     let on-it = c.serve.ensures [] (ap tally c.new-sheet.ensures.hits) in
     let served = subst (λ g. Wrote c.open.new.page (texts (on_grid g.side [] left)) c.serve.new.page) c.new-sheet.ensures.grid on-it in
     let whole = part_last (texts (on_grid c.in-Some.grid.side [] left)) c.in-Some.ensures.replied served in
-    let wrote = session_of _ _ _ _ (c.new-lines.ensures ∙ c.read-part.ensures.part) whole in
+    let wrote = session_of _ _ _ _ (c.new-lines.ensures ∙ c.read_part.ensures.part) whole in
     record { len = ended_len _ _ _ _ refl refl wrote _ c.len-2.ensures; bytes = ended_bytes _ _ _ _ refl refl wrote _ (search rules) }

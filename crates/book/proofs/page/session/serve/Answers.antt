@@ -16,8 +16,8 @@ pub loop-line-preserved : goal.loop-line-preserved
 loop-line-preserved c =
     let told = c.in-Some.ensures in
     let did = c.perform-outcome.ensures in
-    let replied = subst (λ r. Wrote c.loop-line.page (line r) c.reply.new.self) c.reply-to.ensures c.reply.ensures.wrote in
+    let replied = subst (λ r. Wrote c.loop-line.page (line r) c.reply.new.self) c.reply_to.ensures c.reply.ensures.wrote in
     serving_more c.loop-line.invariant c.in-Some.line c.perform-outcome.result told.command told.behind did.outcome did.counts did.places did.grid replied c.reply.ensures.short
 
 pub returns : goal.returns
-returns c = served c.loop-line.invariant c.in-default.ensures.command
+returns c = served c.loop-line.invariant c.in_default.ensures.command
