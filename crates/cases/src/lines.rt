@@ -6,17 +6,23 @@ use std::test::Fail;
 
 /// The replies to an input are these; two bytes behind them stay, and of lent bytes that are too few those that there are
 /// get written.
-fn session(rt: &impl Abort, heap: Global, input: &[u8], expected: &[u8]) -> Result<(), Fail> {
+fn session(
+    rt: &impl Abort,
+    heap: Global,
+    about: &str,
+    input: &[u8],
+    expected: &[u8],
+) -> Result<(), Fail> {
     let len = replies(input, &mut []);
     let mut out = vec![in heap; b'#'; len.saturating_add(2)]?;
-    assert_eq!(rt; replies(input, out.as_mut_slice()), len);
+    assert_eq!(rt; replies(input, out.as_mut_slice()), len, "{about}");
     let mut whole = expected.to_vec(heap)?;
     whole.extend_from_slice(b"##")?;
-    assert_eq!(rt; out, whole);
+    assert_eq!(rt; out, whole, "{about}");
     let mut short = [b'#'; 3];
-    assert_eq!(rt; replies(input, &mut short), len);
+    assert_eq!(rt; replies(input, &mut short), len, "{about}");
     for (a, b) in short.iter().zip(expected.iter()) {
-        assert_eq!(rt; *a, *b);
+        assert_eq!(rt; *a, *b, "{about}");
     }
     Ok(())
 }
@@ -121,7 +127,13 @@ const WORKED: [(&str, &str, &str); 37] = [
 #[test]
 fn worked_sessions(rt: HostRuntime) -> Result<(), Fail> {
     for (about, input, expected) in WORKED {
-        session(&rt, rt.alloc(), input.as_bytes(), expected.as_bytes()).note(about)?;
+        session(
+            &rt,
+            rt.alloc(),
+            about,
+            input.as_bytes(),
+            expected.as_bytes(),
+        )?;
     }
     Ok(())
 }
@@ -158,7 +170,13 @@ fn a_full_sheet(rt: HostRuntime) -> Result<(), Fail> {
         expected.writeln(format_args!("p 0 {held}"))?;
     }
     expected.push_str("p 3\np 2\nt 0 1023\np 0 1024\np 3\n")?;
-    session(&rt, heap, input.as_bytes(), expected.as_bytes())
+    session(
+        &rt,
+        heap,
+        "a full sheet",
+        input.as_bytes(),
+        expected.as_bytes(),
+    )
 }
 
 /// 4 bytes and 32,766 times 2 bytes are 65,536; a line more is not read.
@@ -167,7 +185,13 @@ fn the_most_input(rt: HostRuntime) -> Result<(), Fail> {
     let heap = rt.alloc();
     let input = long(heap, "g 1\n", "c\n", 32766, "p 0 0\n")?;
     let expected = long(heap, "g 0\n", "c 0\n", 32766, "")?;
-    session(&rt, heap, input.as_bytes(), expected.as_bytes())
+    session(
+        &rt,
+        heap,
+        "the most input",
+        input.as_bytes(),
+        expected.as_bytes(),
+    )
 }
 
 /// The last line that is read is cut off behind its second space.
@@ -176,5 +200,11 @@ fn a_line_cut_off(rt: HostRuntime) -> Result<(), Fail> {
     let heap = rt.alloc();
     let input = long(heap, "g 1\n", "c\n", 32764, "p 0 0\n")?;
     let expected = long(heap, "g 0\n", "c 0\n", 32764, "? 17\n")?;
-    session(&rt, heap, input.as_bytes(), expected.as_bytes())
+    session(
+        &rt,
+        heap,
+        "a line cut off",
+        input.as_bytes(),
+        expected.as_bytes(),
+    )
 }
