@@ -1,4 +1,4 @@
-//! Worked examples of the whole program, of the sheet and of number lists, each proved to be safe and then run.
+//! Worked examples of the whole program, of the sheet, of number lists and of packed spots, each proved to be safe and then run.
 #![tactic(auto)]
 
 #[cfg(test)]
@@ -7,3 +7,5 @@ mod lines;
 mod lists;
 #[cfg(test)]
 mod sheets;
+#[cfg(test)]
+mod spots;

@@ -30,9 +30,9 @@ fn list() -> Result<Cut<Cut<Fixed>>, Fail> {
     }
 }
 
-/// The calls that put the seven hits in the order of some places, and pack once in between.
+/// The calls that put the seven hits in the order of some places, and then ask how many are held.
 fn calls(order: [usize; 7]) -> [Entry; 8] {
-    let mut journal = [Entry::new(Call::Pack); 8];
+    let mut journal = [Entry::new(Call::Held); 8];
     for i in 0..7 {
         let (x, y) = SEVEN[order[i].min(6)];
         journal[i] = Entry::new(Call::Put(Cell { x, y }));
