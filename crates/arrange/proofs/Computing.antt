@@ -7,7 +7,7 @@ use Rattle.std.proofs.lemmas.Bool.{cases_Bool, both_ways, cond_both}
 use Rattle.select.specs.Orders.{TotalOrders}
 use Rattle.select.specs.Selections.{SameElements, Selected}
 use Rattle.select.specs.declared.element.Axis.{Axis}
-use Rattle.select.specs.CellOrders.{before as cell-before}
+use Rattle.select.specs.CellOrders.{before as cell_before}
 use Rattle.select.specs.Keys.{cells_total}
 use Rattle.grid.specs.Cells.{count}
 use Rattle.grid.specs.declared.cell.Cell.{Cell}
@@ -150,5 +150,5 @@ module _ {E : Type 0} (before : Axis → E → E → Bool) (total : TotalOrders 
       same = same_from_often before total xs ys often
 
 -- lists that have every cell equally often have the same tree
-pub tree_of_cells : (axis : Axis) (xs ys : List Cell) → ((c : Cell) → count c xs ≡ count c ys) → tree cell-before axis xs ≡ tree cell-before axis ys
-tree_of_cells axis xs ys often = tree-same cell-before cells_total axis xs ys (often_cells xs ys often)
+pub tree_of_cells : (axis : Axis) (xs ys : List Cell) → ((c : Cell) → count c xs ≡ count c ys) → tree cell_before axis xs ≡ tree cell_before axis ys
+tree_of_cells axis xs ys often = tree-same cell_before cells_total axis xs ys (often_cells xs ys often)

@@ -12,7 +12,7 @@ use Rattle.sheet.specs.Memory.{places, hits, tally}
 use Rattle.sheet.specs.declared.sheet.Lent.{Lent}
 use Rattle.sheet.specs.declared.call.Call.{Call}
 use Rattle.book.specs.Pages.{Wrote, Part, Room}
-use Rattle.book.specs.Replies.{line as reply-line}
+use Rattle.book.specs.Replies.{line as reply_line}
 use Rattle.book.specs.Session.{sheet_places, reply, outcome_before, outcome_on, calls, opens, behind, on_grid, from_start, texts}
 use Rattle.book.specs.declared.page.Page.{Page}
 use Rattle.book.specs.declared.refusal.Refused.{Refused}
@@ -52,11 +52,11 @@ module _ (left after : List (List ℕ)) (line : Result Command NotUnderstood) (r
           b' = sym b
 
   -- the reply to a line that opens a grid, or does not, is written
-  pub start_reply : {page page' page'' : Page} {whole : List ℕ} (r : Reply) (opened : Option ℕ) → Part page whole (texts (from_start left)) page' → r ≡ reply line (outcome_before line) → opened ≡ opens line → Wrote page' (reply-line r) page'' → Part page whole (texts (behind opened (from_start after) after)) page''
+  pub start_reply : {page page' page'' : Page} {whole : List ℕ} (r : Reply) (opened : Option ℕ) → Part page whole (texts (from_start left)) page' → r ≡ reply line (outcome_before line) → opened ≡ opens line → Wrote page' (reply_line r) page'' → Part page whole (texts (behind opened (from_start after) after)) page''
   start_reply {page} {page'} {page''} {whole} r opened part is side wrote =
       let rest : List Reply = behind opened (from_start after) after in
       let all : from_start left ≡ r ∷ rest = start_step ∙ (λ i. sym is i ∷ behind (sym side i) (from_start after) after) in
-      part_more (reply-line r) (texts rest) (subst (λ rs. Part page whole (texts rs) page') all part) wrote
+      part_more (reply_line r) (texts rest) (subst (λ rs. Part page whole (texts rs) page') all part) wrote
 
   pub grid_step : (side : ℕ) (past : List Call) → on_grid side past left ≡ reply line (outcome_on side (counts side sheet_places past) line) ∷ on_grid side (past ++ calls line) after
   grid_step side past = go left read rest
@@ -110,7 +110,7 @@ module _ {on grid' grid'' : Grid} {start before after : Lent} {input left left' 
     (came : outcome ≡ outcome_on grid'.side (tally (hits before)) line)
     (called : tally (hits after) ≡ counts_from grid'.side 1024 (tally (hits before)) (calls line))
     (places' : places after ≡ 1024) (same : grid'' ≡ grid')
-    (replied : Wrote page' (reply-line (reply line outcome)) page'') (short : page''.len ≤ page'.len + 64) where
+    (replied : Wrote page' (reply_line (reply line outcome)) page'') (short : page''.len ≤ page'.len + 64) where
   pub serving_more : Serving on start input page grid'' after left' page''
   serving_more = record {
     room = room_less page' page'' (lines left) (lines left') serving.room (fewer-lines (lines left) (lines left') line read behind') short;
@@ -119,7 +119,7 @@ module _ {on grid' grid'' : Grid} {start before after : Lent} {input left left' 
     made = serving.made ++ calls line;
     tallied = called ∙ (λ i. counts_from (serving.grid i).side 1024 (serving.tallied i) (calls line)) ∙ sym (counts_after on.side 1024 (tally (hits start)) serving.made (calls line));
     wrote = λ earlier e.
-        part_more (reply-line (reply line outcome)) (texts (on_grid side (earlier ++ (serving.made ++ calls line)) (lines left')))
+        part_more (reply_line (reply line outcome)) (texts (on_grid side (earlier ++ (serving.made ++ calls line)) (lines left')))
         (subst (λ rs. Part page (texts (on_grid side earlier (lines input))) (texts rs) page') (next earlier e) (serving.wrote earlier e)) replied;
   }
     where

@@ -79,8 +79,8 @@ opens (Err e) = None
 
 -- the replies to lines behind one that opens a grid, or does not
 abbrev pub behind : Option ℕ → List Reply → List (List ℕ) → List Reply
-behind None not-open others = not-open
-behind (Some side) not-open others = on_grid side [] others
+behind None not_open others = not_open
+behind (Some side) not_open others = on_grid side [] others
 
 -- the replies to lines from the start
 abbrev pub from_start : List (List ℕ) → List Reply

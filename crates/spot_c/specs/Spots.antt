@@ -4,7 +4,7 @@ use Rattle.grid.specs.declared.cell.Cell.{Cell}
 use Rattle.cellcode.specs.Ring.{ring}
 use Rattle.cellcode.specs.Row.{row}
 use Rattle.numlist.specs.Lists.{Meaning}
-use Rattle.pile.specs.Refusals.{number as pile-number}
+use Rattle.pile.specs.Refusals.{number as pile_number}
 use Rattle.pile.specs.declared.refusal.PileRefused.{PileRefused}
 use Rattle.sheet.specs.Counts.{Counts, counts, none, refusal, step, unless}
 use Rattle.sheet.specs.Refusals.{number}
@@ -47,7 +47,7 @@ is_wide L = nat_le 42 L.reach && nat_le L.reach 64
 
 -- the make of a code and a list, or the number of the first refusal: that of the list, and then 11
 abbrev pub made_by : Option Code → Result Meaning PileRefused → ℕ → Result Making ℕ
-made_by code (Err e) tag = Err (pile-number e)
+made_by code (Err e) tag = Err (pile_number e)
 made_by None (Ok L) tag = Err 11
 made_by (Some code) (Ok L) tag = cond (is_wide L) (Ok (making code L tag)) (Err 11)
 

@@ -5,7 +5,7 @@ ghost use Rattle.numlist.specs.Fixed.{fixed};
 ghost use Rattle.pile.specs.Layers.{layered};
 ghost use Rattle.pile.specs.Piles.{pile_of};
 ghost use Rattle.sheet.specs.Counts.{counts_from};
-ghost use Rattle.sheet.specs.Memory.{places, hits as hits-of, tally};
+ghost use Rattle.sheet.specs.Memory.{places, hits as hits_of, tally};
 ghost use Rattle.spot.specs.Spots.{Wide, meant};
 ghost use Rattle.spot_c.specs.Spots.{puts, first_refusal, hits_counts, hits_refusal, code_by, made_by, ready, SpotTold};
 ghost use Rattle.spot_c.specs.Told.{cell_of_joined};
@@ -32,8 +32,8 @@ fn cell_of(joined: u64) -> Cell
 
 /// Puts the hits up to the first that is refused, and tells why it is.
 fn put_each(sheet: &mut Sheet<'_>, hits: &[u64]) -> Option<Refusal>
-    ensures first { result ≡ first_refusal sheet.old.grid.side (places sheet.old.lent) (tally (hits-of sheet.old.lent)) (puts hits.now) }
-    ensures counts { result ≡ None → tally (hits-of sheet.new.lent) ≡ counts_from sheet.old.grid.side (places sheet.old.lent) (tally (hits-of sheet.old.lent)) (puts hits.now) }
+    ensures first { result ≡ first_refusal sheet.old.grid.side (places sheet.old.lent) (tally (hits_of sheet.old.lent)) (puts hits.now) }
+    ensures counts { result ≡ None → tally (hits_of sheet.new.lent) ≡ counts_from sheet.old.grid.side (places sheet.old.lent) (tally (hits_of sheet.old.lent)) (puts hits.now) }
     ensures grid { sheet.new.grid ≡ sheet.old.grid }
 {
     for i in 0..hits.len() {
