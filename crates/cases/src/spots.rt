@@ -16,7 +16,7 @@ const SPOT: [u8; 36] = [
     0, 0, 0, 16, 0, 0, 0, 1, 0, 1, 0,
 ];
 
-/// The program's list: cut 8 over cut 8 over fixed 26.
+/// The list of the worked spot: cut 8 over cut 8 over fixed 26.
 fn list() -> Result<Cut<Cut<Fixed>>, Fail> {
     let Ok(lowest) = Fixed::new(26) else {
         return Err(Fail::new("a fixed list"));

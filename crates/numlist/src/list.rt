@@ -15,8 +15,9 @@ pub const MOST_NUMBERS: usize = 1_048_576;
 
 /// A way to make one string of bytes of many numbers, and to read them in it.
 ///
-/// `write`, `open` and `read` are for everyone. The other calls are what a list built over another one asks of it. They
-/// take numbers with a `skip`: that is, in place of each number its bits above the lowest `skip`, zeros left out.
+/// `write`, `open`, `read`, `reach` and `is_past_64` are for everyone. The other calls are what a list built over another one
+/// asks of it. Some take numbers with a `skip`: that is, in place of each number its bits above the lowest `skip`, zeros left
+/// out.
 pub trait NumberList {
     /// Where the sections of a string lie, found one time for many reads.
     type Layout: Copy;
