@@ -1,3 +1,4 @@
 pub mod Cells
 pub mod Sides
 pub mod Refusals
+pub mod Joined

@@ -22,7 +22,7 @@ impl Grid {
         ensures when { is_ok result ≡ allowed side }
         ensures made { IfOk result (λ g. g.side ≡ side) }
     {
-        if side < 1 || side > MOST_SIDE {
+        if !(1..=MOST_SIDE).contains(&side) {
             return Err(SideRefused);
         }
         Ok(Grid { side })
