@@ -1,2 +1,2 @@
 pub mod Codes
-pub mod Roots
+pub mod Decoding

@@ -12,7 +12,7 @@ use Rattle.cellcode.specs.Ons.{on_below, allowed-most}
 use Rattle.cellcode.specs.Steps.{apart, stands, stands_step, stands_place, stands_far, place_stands}
 
 -- a ring ends where the next begins, 8d numbers on
-width : (d : ℕ) → 1 ≤ d → (2 * d + 1) * (2 * d + 1) ≡ first d + 8 * d
+pub width : (d : ℕ) → 1 ≤ d → (2 * d + 1) * (2 * d + 1) ≡ first d + 8 * d
 width d some = let e : (2 * d - 1) + 1 ≡ 2 * d = omega arith in omega (arith, ap (λ n. n * n) e)
 
 ends_before : (d e : ℕ) → d < e → (2 * d + 1) * (2 * d + 1) ≤ first e

@@ -3,14 +3,14 @@ ghost use Rattle.std.specs.Prelude.{◌≡◌};
 ghost use Rattle.cellcode.specs.Refusals.{number};
 
 /// The cell or its parent is off the grid.
-#[derive(Clone, Copy, Debug)]
+#[derive(Clone, Copy, Debug, PartialEq, Eq)]
 pub struct OffGrid;
 
-impl OffGrid {
-    /// The number of this refusal.
-    pub fn number(self) -> u8
-        ensures { result ≡ number self }
-    {
+/// The number by which this refusal is known.
+impl From<OffGrid> for u8 {
+    ghost from_gives = { λ refused n. n ≡ number refused };
+
+    fn from(_refused: OffGrid) -> u8 {
         2
     }
 }

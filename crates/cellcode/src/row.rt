@@ -2,7 +2,7 @@
 ghost use Rattle.cellcode.specs.Row.{row};
 ghost use Rattle.cellcode.specs.Rows.{row_laws};
 
-use crate::{CellCode, OffGrid};
+use crate::CellCode;
 use grid::{Cell, Grid};
 
 /// Numbers the cells of a grid row by row, the same from every parent on the grid.
@@ -14,20 +14,11 @@ impl CellCode for RowCode {
 
     ghost sound = { λ s. row_laws };
 
-    fn encode(&self, grid: Grid, parent: Cell, cell: Cell) -> Result<u64, OffGrid> {
-        if !grid.has(parent) {
-            return Err(OffGrid);
-        }
-        if !grid.has(cell) {
-            return Err(OffGrid);
-        }
-        Ok(u64::from(cell.y) * u64::from(grid.side()) + u64::from(cell.x))
+    fn number(&self, grid: Grid, _parent: Cell, cell: Cell) -> u64 {
+        u64::from(cell.y) * u64::from(grid.side()) + u64::from(cell.x)
     }
 
-    fn decode(&self, grid: Grid, parent: Cell, number: u64) -> Option<Cell> {
-        if !grid.has(parent) {
-            return None;
-        }
+    fn cell(&self, grid: Grid, _parent: Cell, number: u64) -> Option<Cell> {
         let side = u64::from(grid.side());
         let y = number / side;
         if y >= side {

@@ -1,12 +1,8 @@
 use Rattle.std.proofs.Common.{arith}
 use Rattle.std.proofs.lemmas.Bool.Decides.{nat_tests}
 use Rattle.cellcode.specs.Spiral.{across, down}
-use Rattle.cellcode.proofs.ring.place_of.Goals as goal
+use Rattle.cellcode.proofs.ring.Ring.place.Goals as goal
 
 pub returns : goal.returns
 unfolding across down
-returns c = record {
-  across = grind (arith, nat_tests);
-  down = grind (arith, nat_tests);
-  small = (omega arith, omega arith);
-}
+returns c = record { across = grind (arith, nat_tests); down = grind (arith, nat_tests) }
