@@ -58,20 +58,6 @@ narrow-true w (x ∷ xs) e =
     let p = and_parts (ltb x (2 ^ w)) (narrow w xs) e in
     (ltb-true x (2 ^ w) p.0, narrow-true w xs p.1)
 
--- numbers of 64 bits, where the width may be greater
-pub narrow-min : (w : ℕ) (xs : List ℕ) → Narrow 64 xs → narrow (min 64 w) xs ≡ narrow w xs
-narrow-min w [] fits = refl
-narrow-min w (x ∷ xs) fits = (λ i. same i && narrow-min w xs fits.1 i)
-  where
-    same : ltb x (2 ^ min 64 w) ≡ ltb x (2 ^ w)
-    same = ⊎_elim
-        (λ h. let e : min 64 w ≡ w = omega arith in ap (λ n. ltb x (2 ^ n)) e)
-        (λ h.
-        let e : min 64 w ≡ 64 = omega arith in
-        let more : 2 ^ 64 ≤ 2 ^ w = pow_mono h in
-        ap (λ n. ltb x (2 ^ n)) e ∙ lt-ltb x (2 ^ 64) fits.0 ∙ sym (lt-ltb x (2 ^ w) (omega (arith, fits.0))))
-        (cases_lt w 64)
-
 pub above-none : (k : ℕ) → above k [] ≡ []
 above-none zero = refl
 above-none (suc k) = refl

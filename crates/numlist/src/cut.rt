@@ -11,15 +11,28 @@ use crate::parts::{count, put_directory_at, put_lows, put_marks_at};
 use crate::places::{all_ones, has_no_empty, is_directory, low_at, mark_at, place, rank};
 use crate::{CutRefused, ListFault, NumberList, Places, Test};
 use bits::{Width, is_filled};
+use std::alloc::AllocError;
 
 /// The most bits that a cut keeps.
 pub const MOST_CUT_BITS: u32 = 16;
 
 /// A list over another one, which gets the bits above the lowest ones.
-#[derive(Clone, Copy)]
-pub struct Cut<L> {
+pub struct Cut<L: NumberList> {
     width: Width,
     below: L,
+    ghost within: { width.bits + (L.NumberList.meaning below).reach ≤ 64 },
+}
+
+impl<L: NumberList + Copy> Copy for Cut<L> {}
+
+impl<L: NumberList + Copy> Clone for Cut<L> {
+    ghost is_clone = { λ cut copy. copy ≡ cut };
+
+    ghost is_infallible = { λ _. Unit {0} };
+
+    fn clone(&self) -> Result<Self, AllocError> {
+        Ok(*self)
+    }
 }
 
 /// Where the sections of a cut lie, how many marks are 1, and where those of the list below lie.
@@ -87,12 +100,10 @@ impl<L: NumberList> NumberList for Cut<L> {
 
     ghost sound = { λ s. cut_sound s.width.bits (L.NumberList.meaning s.below) s.width.low (L.NumberList.sound s.below) };
 
-    fn reach(&self) -> u32 {
-        (self.width.bits() + self.below.reach()).min(64)
-    }
+    ghost within = { λ s. s.within };
 
-    fn is_past_64(&self) -> bool {
-        self.width.bits() + self.below.reach() > 64
+    fn reach(&self) -> u32 {
+        self.width.bits() + self.below.reach()
     }
 
     fn size(&self, numbers: &[u64], skip: u32) -> usize {

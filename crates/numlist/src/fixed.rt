@@ -4,7 +4,7 @@ ghost use Rattle.bits.specs.Packing.{room};
 ghost use Rattle.bits.specs.Widths.{allowed};
 ghost use Rattle.numlist.specs.Fixed.{fixed};
 ghost use Rattle.numlist.specs.Lists.{most};
-ghost use Rattle.numlist.specs.FixedSound.{fixed_sound};
+ghost use Rattle.numlist.specs.FixedSound.{fixed_sound, fixed_within};
 
 use crate::parts::{count, put_lows};
 use crate::{ListFault, NumberList, Test, WidthRefused};
@@ -67,12 +67,10 @@ impl NumberList for Fixed {
 
     ghost sound = { λ s. fixed_sound s.width.bits s.width.low };
 
+    ghost within = { λ s. fixed_within s.width.bits s.width.high };
+
     fn reach(&self) -> u32 {
         self.width.bits()
-    }
-
-    fn is_past_64(&self) -> bool {
-        false
     }
 
     fn size(&self, numbers: &[u64], skip: u32) -> usize {

@@ -28,8 +28,8 @@ grown (suc n) L (b ∷ bs) = unless (cut_refusal b L.reach) (grown n (cut b L) b
 abbrev pub pile_of : ℕ → List ℕ → Result Meaning PileRefused
 pile_of w cuts = cond (allowed w) (grown 4 (fixed w) cuts) (Err PileRefused.Width)
 
--- k more layers, by the widths from place i on as far as there are any: whatever the layers above come to, it is what all
--- of them, these first, come to over the list below
-abbrev pub Grown : {S : Type 0} → ℕ → List ℕ → ℕ → Meaning → (S → Meaning) → Result S PileRefused → Type 0
-Grown k cuts i L means (Ok s) = (n m : ℕ) → m ≡ n + k → grown m L (drop i cuts) ≡ grown n (means s) (drop (i + k) cuts)
-Grown k cuts i L means (Err refusal) = (n m : ℕ) → m ≡ n + k → grown m L (drop i cuts) ≡ Err refusal
+-- one more layer, by the width at place i if there is one: whatever the layers above come to over it, it is what all of
+-- them, this one first, come to over the list below
+abbrev pub Grown : {S : Type 0} → List ℕ → ℕ → Meaning → (S → Meaning) → Result S PileRefused → Type 0
+Grown cuts i L means (Ok s) = (n : ℕ) → grown (suc n) L (drop i cuts) ≡ grown n (means s) (drop (i + 1) cuts)
+Grown cuts i L means (Err refusal) = (n : ℕ) → grown (suc n) L (drop i cuts) ≡ Err refusal

@@ -11,7 +11,7 @@ returns-then-is_open g c =
     let written = c.in-Ok.ensures in
     let fits = written_fits L xs (length out) _ written.answer in
     record {
-      answer = λ wide. ap Ok (c.all_there.ensures (drop (length (L.string xs)) out) wide fits.1 fits.0 written.bytes) ∙ ap all_back written.answer;
+      answer = ap Ok (c.all_there.ensures (drop (length (L.string xs)) out) fits.1 fits.0 written.bytes) ∙ ap all_back written.answer;
       bytes = written.bytes;
     }
 
@@ -23,6 +23,6 @@ returns-else-is_open g c =
     let written = c.in-Ok.ensures in
     let fits = written_fits L xs (length out) _ written.answer in
     record {
-      answer = λ wide. ap Ok (c.is_open.ensures (drop (length (L.string xs)) out) wide fits.1 fits.0 written.bytes) ∙ ap all_back written.answer;
+      answer = ap Ok (c.is_open.ensures (drop (length (L.string xs)) out) fits.1 fits.0 written.bytes) ∙ ap all_back written.answer;
       bytes = written.bytes;
     }

@@ -14,8 +14,8 @@ returns-then-not-has_no_zero g c =
     let ones = c.all_ones-ones.ensures.counted in
     record {
       bound = omega (arith, c.args.self.now.width.low);
-      verdict = λ wide.
-          let v = c.in-Ok.ensures.verdict (omega arith) in
+      verdict =
+          let v = c.in-Ok.ensures.verdict in
           let accepted = sym (λ i. L.verdict (rest i) (ones i)) ∙ sym v in
           let z = c.if-not-has_no_zero.ensures c.in-Ok.length (sym v) ∙ (λ i. nonzero (L.numbers (rest i) (ones i))) in
           judged-zero b L bytes m (omega (arith, placed.its_below)) (sym c.if-not-are_filled.ensures) (sym c.if-not-is_directory.ensures) c.in-Ok.length accepted (sym z);
@@ -34,8 +34,8 @@ returns-else-not-has_no_zero g c =
     let enough : below_at b m ≤ length bytes = omega (arith, placed.its_below) in
     record {
       bound = omega (arith, c.in-Ok.ensures.bound, ap length rest, length-drop (below_at b m) bytes, placed.its_below, enough);
-      verdict = λ wide.
-          let v = c.in-Ok.ensures.verdict (omega arith) in
+      verdict =
+          let v = c.in-Ok.ensures.verdict in
           let accepted = sym (λ i. L.verdict (rest i) (ones i)) ∙ sym v in
           let z = c.if-not-has_no_zero.ensures c.in-Ok.length (sym v) ∙ (λ i. nonzero (L.numbers (rest i) (ones i))) in
           ap (λ k. Ok (k + c.in-Ok.length)) placed.its_below
@@ -55,10 +55,10 @@ returns-in-Err g c =
     let is = c.one_deeper.ensures in
     record {
       bound = omega (arith, ap (λ f. f.level) is, low, c.args.self.now.width.low);
-      verdict = λ wide.
-          let v = c.in-Err.ensures.verdict (omega arith) in
+      verdict =
+          let v = c.in-Err.ensures.verdict in
           let accepted = sym (λ i. L.verdict (rest i) (ones i)) ∙ sym v in
-          let level : min 18446744073709551615 (c.in-Err.fault.level + 1) ≡ c.in-Err.fault.level + 1 = omega (arith, low, wide) in
+          let level : min 18446744073709551615 (c.in-Err.fault.level + 1) ≡ c.in-Err.fault.level + 1 = omega (arith, low, c.args.self.now.within) in
           ap Err (is ∙ ap (λ k. record { level = k; test = c.in-Err.fault.test }) level)
           ∙ judged-below b L bytes m (omega (arith, placed.its_below)) (sym c.if-not-are_filled.ensures) (sym c.if-not-is_directory.ensures) c.in-Err.fault accepted;
     }

@@ -1,2 +1,0 @@
-mod Growing
-pub mod Reaches
