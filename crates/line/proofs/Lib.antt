@@ -1,2 +1,3 @@
-pub mod Turns
+pub mod Digits
+pub mod Numbers
 pub mod Splitting

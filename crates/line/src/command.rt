@@ -1,12 +1,13 @@
 //! What a line asks for.
 ghost use Rattle.std.specs.Prelude.{◌≡◌};
-ghost use Rattle.line.specs.Grammar.{command, opening};
+ghost use Rattle.line.specs.Grammar.{command, opening, understood};
 
 use crate::NotUnderstood;
+use crate::words::numbers;
 use grid::Cell;
 
 /// What a line asks for.
-#[derive(Clone, Copy, Debug)]
+#[derive(Clone, Copy, Debug, PartialEq, Eq)]
 pub enum Command {
     /// `g`: a grid of this side.
     Grid(u32),
@@ -41,6 +42,24 @@ impl Command {
             Command::Put(_) => b'p',
             Command::TakeBack(_) => b't',
             Command::Clear => b'c',
+        }
+    }
+}
+
+/// The command that a line is.
+impl TryFrom<&[u8]> for Command {
+    type Error = NotUnderstood;
+
+    ghost try_from_gives = { λ line said. said ≡ understood line.now };
+
+    fn try_from(line: &[u8]) -> Result<Command, NotUnderstood> {
+        match line {
+            [letter] => Command::new(char::from(*letter), &[]),
+            [letter, b' ', words @ ..] => {
+                let numbers = numbers(words).ok_or(NotUnderstood)?;
+                Command::new(char::from(*letter), numbers.as_slice())
+            }
+            _ => Err(NotUnderstood),
         }
     }
 }

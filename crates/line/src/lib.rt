@@ -3,9 +3,8 @@
 
 mod command;
 mod lines;
-mod numbers;
-mod reader;
 mod refusal;
+mod words;
 
 pub use command::Command;
 pub use lines::Lines;

@@ -1,9 +1,9 @@
 //! The lines of an input, one after another.
-ghost use Rattle.std.specs.Prelude.{◌≡◌};
+ghost use Rattle.std.specs.Prelude.{◌≡◌, ◌<◌, ◌∷◌, length};
+ghost use Rattle.std.specs.Iterator.{item_count};
 ghost use Rattle.line.specs.Pieces.{lines};
-ghost use Rattle.line.specs.Reading.{first_command, behind_first};
+ghost use Rattle.line.specs.Reading.{Reads};
 
-use crate::reader::Reader;
 use crate::{Command, NotUnderstood};
 
 /// The lines of an input that are still to be read.
@@ -19,23 +19,31 @@ impl<'a> Lines<'a> {
     {
         Lines { rest: input }
     }
+}
 
-    /// Reads the next line, if there is one.
-    pub fn next(&mut self) -> Option<Result<Command, NotUnderstood>>
-        ensures command { result ≡ first_command (lines self.old.rest.now) }
-        ensures behind { lines self.new.rest.now ≡ behind_first (lines self.old.rest.now) }
-    {
+impl Iterator for Lines<'_> {
+    type Item = Result<Command, NotUnderstood>;
+
+    ghost next_gives = { λ before said after. Reads (lines before.rest.now) said (lines after.rest.now) };
+
+    ghost remaining = { item_count (λ left. lines left.rest.now) };
+
+    fn next(&mut self) -> Option<Result<Command, NotUnderstood>> {
         if self.rest.is_empty() {
             return None;
         }
-        let mut reader = Reader::new();
-        while !self.rest.is_empty() {
-            let byte = self.rest[0];
-            self.rest = &self.rest[1..];
-            if let Some(command) = reader.step(byte) {
-                return Some(command);
-            }
-        }
-        Some(reader.end())
+        let (line, rest) = first_line(self.rest);
+        self.rest = rest;
+        Some(Command::try_from(line))
+    }
+}
+
+/// The first line of an input that has one, and what stands behind it: byte 10 ends the line, or the end of the input.
+fn first_line(input: &[u8]) -> (&[u8], &[u8])
+    ensures { 0 < length input.now → lines input.now ≡ result.0.now ∷ lines result.1.now }
+{
+    match input.iter().position(|byte| *byte == b'\n') {
+        Some(end) => (&input[..end], &input[end + 1..]),
+        None => (input, &[]),
     }
 }
