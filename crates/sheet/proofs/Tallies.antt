@@ -1,22 +1,22 @@
 -- How the counts of the hits change as a hit comes or goes. Assumes nothing.
-use Rattle.std.proofs.Common.{◌≡◌, ℕ, ◌+◌, ◌-◌, ◌<◌, ◌≤◌, true, false, cond, List, [], ◌∷◌, ◌++◌, length, get_or, take, set, sum_by, sym, ap, ◌∙◌, ⊎_elim, mul-zero, arith, length-set, length-take-le, get_or-take}
+use Rattle.std.proofs.Common.{◌≡◌, ℕ, ◌+◌, ◌-◌, ◌<◌, ◌≤◌, true, cond, List, length, get_or, take, set, position, sum_by, Some, None, sym, ap, ◌∙◌, ⊎_elim, arith, length-set, length-take-le, get_or-take}
+use Rattle.std.specs.List.{position_or_len}
 use lib.Seq.{take-set-lt, take-set-le}
-use Rattle.std.proofs.lemmas.List.Sums.{sum_by_push, sum_by-set, sum_by_more, get_or-le-sum_by}
-use Rattle.std.proofs.ByRecursion.{sum_by_le, All-from_get_or}
-use Rattle.std.proofs.lemmas.List.{length_push}
-use Rattle.std.proofs.lemmas.Bool.{cases_lt}
+use Rattle.std.proofs.lemmas.List.Sums.{sum_by-set, sum_by_more, get_or-le-sum_by, fails_before_first}
+use Rattle.std.proofs.ByRecursion.{All-from_get_or}
+use Rattle.std.proofs.lemmas.List.Quantifiers.{position-Some}
+use Rattle.std.proofs.lemmas.Bool.{cases_lt, lt-ltb}
+use Rattle.std.proofs.lemmas.Option.{none-some}
 use Rattle.grid.specs.Cells.{same, count, origin}
 use Rattle.grid.specs.declared.cell.Cell.{Cell}
 use Rattle.grid.proofs.Sames.{same_equal}
-use Rattle.sheet.specs.Counts.{Counts, more, fewer}
+use Rattle.arrange.proofs.Counted.{count_none}
+use Rattle.sheet.specs.Counts.{Counts, fewer}
 use Rattle.sheet.specs.Memory.{tally}
 
 -- counts are equal where they agree on every cell and on the number of hits
 pub same-counts : (t u : Counts) → ((c : Cell) → t.times c ≡ u.times c) → t.held ≡ u.held → t ≡ u
 same-counts t u each all = λ i. record { times = λ c. each c i; held = all i }
-
-pub tally_push : (hs : List Cell) (c : Cell) → tally (hs ++ c ∷ []) ≡ more c (tally hs)
-tally_push hs c = same-counts _ _ (λ d. sum_by_push (λ h. cond (same d h) 1 0) hs c) (length_push hs c)
 
 module _ {X : Type 0} (f : X → ℕ) where
   -- the last of n + 1 elements takes the place of the one that goes
@@ -57,17 +57,16 @@ tally_closed cells c i n inside within is = same-counts _ _ each all
         ∙ omega (arith, length-take-le (n + 1) cells (omega arith))
 
 -- a cell that no hit is of is not counted
-pub none_counted : (cells : List Cell) (c : Cell) (n : ℕ) → n ≤ length cells → ((k : ℕ) → k < n → same c (get_or cells k origin) ≡ false) → count c (take n cells) ≡ 0
-none_counted cells c n within not =
-    let long = length-take-le n cells within in
-    let each : (k : ℕ) → k < length (take n cells) → cond {A = ℕ} (same c (get_or (take n cells) k origin)) 1 0 ≤ 0 =
-    λ k h. simp (get_or-take n cells k origin (omega arith), not k (omega arith)) (omega arith) in
-    let most = sum_by_le (λ h. cond (same c h) 1 0) 0 (take n cells) (All-from_get_or _ (take n cells) origin each) in
-    omega (arith, most, mul-zero (length (take n cells)))
+pub none_counted : (c : Cell) (hs : List Cell) → position (same c) hs ≡ None → count c hs ≡ 0
+none_counted c hs none =
+    count_none (same c) hs (All-from_get_or _ hs origin (λ k h. fails_before_first (same c) hs k origin (omega (arith, all))))
+  where
+    all : length hs ≤ position_or_len (same c) hs
+    all = ⊎_elim (λ h. absurd (none-some _ (sym none ∙ ap (λ b. cond b (Some (position_or_len (same c) hs)) None) (lt-ltb _ _ h)))) (λ h. h) (cases_lt (position_or_len (same c) hs) (length hs))
 
 -- a cell that a hit is of is counted
-pub some_counted : (cells : List Cell) (c : Cell) (k n : ℕ) → n ≤ length cells → k < n → same c (get_or cells k origin) ≡ true → 0 < count c (take n cells)
-some_counted cells c k n within inside is =
-    let long = length-take-le n cells within in
-    let one : 1 ≡ cond {A = ℕ} (same c (get_or (take n cells) k origin)) 1 0 = simp (get_or-take n cells k origin inside, is) in
-    omega (arith, one, get_or-le-sum_by (λ h. cond (same c h) 1 0) (take n cells) k origin (omega arith))
+pub some_counted : (c : Cell) (hs : List Cell) (k : ℕ) → position (same c) hs ≡ Some k → 0 < count c hs
+some_counted c hs k found =
+    let first = position-Some (same c) hs k origin found in
+    let one : 1 ≡ cond {A = ℕ} (same c (get_or hs k origin)) 1 0 = simp first.1 in
+    omega (arith, one, get_or-le-sum_by (λ h. cond (same c h) 1 0) hs k origin first.0)

@@ -2,7 +2,7 @@
 use grid::Cell;
 
 /// A call of a sheet, with its argument.
-#[derive(Clone, Copy, Debug)]
+#[derive(Clone, Copy, Debug, PartialEq, Eq)]
 pub enum Call {
     /// One hit of the cell more.
     Put(Cell),

@@ -1,16 +1,16 @@
 //! Whole runs of calls.
 ghost use Rattle.std.specs.Prelude.{◌≡◌, true, map, length, drop, Ok};
 ghost use Rattle.grid.specs.Cells.{count};
-ghost use Rattle.sheet.specs.Counts.{none, counts, counts_from, peak, answers, answers_from};
+ghost use Rattle.sheet.specs.Counts.{none, counts, peak, answers};
 ghost use Rattle.sheet.specs.Held.{hits_after};
 ghost use Rattle.sheet.specs.Memory.{memory, places, hits, tally};
-ghost use Rattle.sheet.specs.Runs.{call_of, answer_of, none_writes};
+ghost use Rattle.sheet.specs.Runs.{call_of, answer_of, none_writes, Runs};
 
 use crate::{Call, Refusal, Sheet};
 use grid::{Cell, Grid};
 
 /// A call and the answer that it got. Before the run any answer may stand there.
-#[derive(Clone, Copy)]
+#[derive(Clone, Copy, Debug, PartialEq, Eq)]
 pub struct Entry {
     pub call: Call,
     pub answer: Result<usize, Refusal>,
@@ -32,19 +32,10 @@ impl Entry {
 impl Sheet<'_> {
     /// Makes the calls of a journal, the first one first, and writes each answer beside its call.
     pub fn run(&mut self, journal: &mut [Entry])
-        ensures counts { tally (hits self.new.lent) ≡ counts_from self.old.grid.side (places self.old.lent) (tally (hits self.old.lent)) (map call_of journal.old) }
-        ensures answers { map answer_of journal.new ≡ answers_from self.old.grid.side (places self.old.lent) (tally (hits self.old.lent)) (map call_of journal.old) }
-        ensures calls { map call_of journal.new ≡ map call_of journal.old }
-        ensures left { none_writes journal.new ≡ true → memory self.new.lent ≡ memory self.old.lent }
-        ensures behind { drop (peak self.old.grid.side (places self.old.lent) (tally (hits self.old.lent)) (map call_of journal.old)) (memory self.new.lent) ≡ drop (peak self.old.grid.side (places self.old.lent) (tally (hits self.old.lent)) (map call_of journal.old)) (memory self.old.lent) }
-        ensures lent { self.new.lent.cells.ghost_name ≡ self.old.lent.cells.ghost_name }
-        ensures places { places self.new.lent ≡ places self.old.lent }
-        ensures grid { self.new.grid ≡ self.old.grid }
+        ensures { Runs self.old self.new journal.old journal.new }
     {
-        for i in 0..journal.len() {
-            let call = journal[i].call;
-            let answer = self.apply(call);
-            journal[i].answer = answer;
+        for entry in journal.iter_mut() {
+            entry.answer = self.apply(entry.call);
         }
     }
 }

@@ -1,8 +1,6 @@
 //! The sheet and its memory.
-ghost use Rattle.std.specs.Prelude.{◌≡◌, ℕ, ◌+◌, ◌<◌, ◌≤◌, true, [], length, slice_index_or, slice_set};
-ghost use Rattle.grid.specs.Cells.{on, origin};
-ghost use Rattle.sheet.specs.Counts.{room};
-ghost use Rattle.sheet.specs.Memory.{memory, places, hits, Finds};
+ghost use Rattle.std.specs.Prelude.{◌≡◌, ℕ, ◌+◌, ◌<◌, ◌≤◌, true, [], length, position, slice_index_or, slice_set};
+ghost use Rattle.grid.specs.Cells.{on, same, origin};
 
 use grid::{Cell, Grid};
 
@@ -12,11 +10,13 @@ mod tree;
 /// The most hits that any sheet holds.
 const MOST_HITS: usize = 1_048_576;
 
-/// Cells that a caller lends. The first `held` of them are hits, and the content of the others is of no account.
+/// Cells that a caller lends. The first `held` of them are hits, and the content of the others is of no account. The memory
+/// is the caller's and never grows, so it is a slice and a count.
 #[derive(Drop)]
 pub struct Lent<'a> {
     cells: &'a mut [Cell],
     held: usize,
+    ghost within: { held ≤ length cells.now },
 }
 
 /// The hits of one field, which are counted and not ordered.
@@ -24,12 +24,14 @@ pub struct Lent<'a> {
 pub struct Sheet<'a> {
     grid: Grid,
     lent: Lent<'a>,
-    ghost within: { lent.held ≤ length lent.cells.now },
     ghost most: { lent.held ≤ 1048576 },
     ghost placed: { (k : ℕ) → k < lent.held → on grid.side (slice_index_or lent.cells.now k origin) ≡ true },
 }
 
 impl Lent<'_> {
+    ghost use Rattle.sheet.specs.Counts.{room};
+    ghost use Rattle.sheet.specs.Memory.{memory, places, hits};
+
     /// The most hits that there can be.
     fn room(&self) -> usize
         ensures { result ≡ room (places self.now) }
@@ -37,17 +39,18 @@ impl Lent<'_> {
         self.cells.len().min(MOST_HITS)
     }
 
-    /// A place that holds the cell.
-    fn find(&self, cell: Cell) -> Option<usize>
-        requires { self.now.held ≤ places self.now }
-        ensures { Finds cell self.now result }
+    /// The hits, in the order in which they lie.
+    fn hits(&self) -> &[Cell]
+        ensures { result.now ≡ hits self.now }
     {
-        for place in 0..self.held {
-            if cell.is(self.cells[place]) {
-                return Some(place);
-            }
-        }
-        None
+        &self.cells[..self.held]
+    }
+
+    /// The first place that holds the cell.
+    fn find(&self, cell: Cell) -> Option<usize>
+        ensures { result ≡ position (same cell) (hits self.now) }
+    {
+        self.hits().iter().position(|hit| *hit == cell)
     }
 
     /// One hit more, at the place behind the others.
@@ -63,7 +66,7 @@ impl Lent<'_> {
 
     /// Closes up over the hit at the place: the last hit takes its place.
     fn close_up(&mut self, place: usize)
-        requires { (place < self.old.held) × (self.old.held ≤ places self.old) }
+        requires { place < self.old.held }
         ensures held { self.new.held + 1 ≡ self.old.held }
         ensures memory { memory self.new ≡ slice_set (memory self.old) place (slice_index_or (memory self.old) self.new.held origin) }
         ensures lent { self.new.cells.ghost_name ≡ self.old.cells.ghost_name }
@@ -74,6 +77,8 @@ impl Lent<'_> {
 }
 
 impl<'a> Sheet<'a> {
+    ghost use Rattle.sheet.specs.Memory.{memory, hits};
+
     /// A sheet on this grid that holds no hit, whatever the memory contains.
     pub fn new(grid: Grid, cells: &'a mut [Cell]) -> Sheet<'a>
         ensures hits { hits result.lent ≡ [] }

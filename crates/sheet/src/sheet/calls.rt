@@ -1,5 +1,5 @@
 //! The calls of a sheet.
-ghost use Rattle.std.specs.Prelude.{◌≡◌, Ok};
+ghost use Rattle.std.specs.Prelude.{Ok};
 ghost use Rattle.sheet.specs.Memory.{Does};
 
 use crate::{Call, Refusal, Sheet};
@@ -8,8 +8,7 @@ use grid::Cell;
 impl Sheet<'_> {
     /// Adds one hit, and tells how many are then held.
     pub fn put(&mut self, cell: Cell) -> Result<usize, Refusal>
-        ensures does { Does self.old.grid.side self.old.lent self.new.lent (Call.Put cell) result }
-        ensures grid { self.new.grid ≡ self.old.grid }
+        ensures { Does self.old self.new (Call.Put cell) result }
     {
         if !self.grid.has(cell) {
             return Err(Refusal::OffGrid);
@@ -23,31 +22,26 @@ impl Sheet<'_> {
 
     /// Removes one hit of the cell, and tells how many are then held.
     pub fn take_back(&mut self, cell: Cell) -> Result<usize, Refusal>
-        ensures does { Does self.old.grid.side self.old.lent self.new.lent (Call.TakeBack cell) result }
-        ensures grid { self.new.grid ≡ self.old.grid }
+        ensures { Does self.old self.new (Call.TakeBack cell) result }
     {
         if !self.grid.has(cell) {
             return Err(Refusal::OffGrid);
         }
-        let Some(place) = self.lent.find(cell) else {
-            return Err(Refusal::NotHeld);
-        };
+        let place = self.lent.find(cell).ok_or(Refusal::NotHeld)?;
         self.lent.close_up(place);
         Ok(self.lent.held)
     }
 
     /// Removes all hits, as at the start. It has no answer; of a call in a run the answer is that 0 hits are held.
     pub fn clear(&mut self)
-        ensures does { Does self.old.grid.side self.old.lent self.new.lent Call.Clear (Ok 0) }
-        ensures grid { self.new.grid ≡ self.old.grid }
+        ensures { Does self.old self.new Call.Clear (Ok 0) }
     {
         self.lent.held = 0;
     }
 
     /// Does what a call says, and tells how many hits are then held.
     pub fn apply(&mut self, call: Call) -> Result<usize, Refusal>
-        ensures does { Does self.old.grid.side self.old.lent self.new.lent call result }
-        ensures grid { self.new.grid ≡ self.old.grid }
+        ensures { Does self.old self.new call result }
     {
         match call {
             Call::Put(cell) => self.put(cell),

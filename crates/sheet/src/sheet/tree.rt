@@ -1,5 +1,5 @@
 //! The hits of a sheet as a tree.
-ghost use Rattle.std.specs.Prelude.{◌≡◌, ◌≤◌, length, take, drop};
+ghost use Rattle.std.specs.Prelude.{◌≡◌, drop};
 ghost use Rattle.select.specs.CellOrders.{before};
 ghost use Rattle.arrange.specs.Computed.{tree};
 ghost use Rattle.arrange.specs.Trees.{Arranges};
@@ -12,9 +12,9 @@ use grid::{Cell, Grid};
 use select::Axis;
 
 impl Lent<'_> {
-    /// Arranges the hits, and leaves the cells behind them.
+    /// Arranges the hits, and leaves the cells behind them. The memory of the hits is lent on from here, where it is a field
+    /// of `self`: from a method of the sheet, where it lies a struct deeper, it cannot be lent yet.
     fn arrange(&mut self)
-        requires { self.old.held ≤ places self.old }
         ensures held { self.new.held ≡ self.old.held }
         ensures tree { Arranges before Axis.X (hits self.old) (hits self.new) }
         ensures behind { drop self.old.held (memory self.new) ≡ drop self.old.held (memory self.old) }
@@ -22,27 +22,17 @@ impl Lent<'_> {
         ensures places { places self.new ≡ places self.old }
     {
         let held = self.held;
-        arrange_front(self.cells, held);
+        let cells = &mut *self.cells;
+        arrange(&mut cells[..held]);
     }
-}
-
-/// Arranges the first `held` cells, and leaves the others.
-fn arrange_front(cells: &mut [Cell], held: usize)
-    requires { held ≤ length cells.old }
-    ensures tree { Arranges before Axis.X (take held cells.old) (take held cells.new) }
-    ensures behind { drop held cells.new ≡ drop held cells.old }
-    ensures long { length cells.new ≡ length cells.old }
-{
-    arrange(&mut cells[..held]);
 }
 
 impl Sheet<'_> {
     /// Arranges the hits as a tree that is cut by x first. None comes or goes.
     pub fn arrange(&mut self)
-        ensures keeps { Keeps self.old.lent self.new.lent }
+        ensures keeps { Keeps self.old self.new }
         ensures tree { Arranges before Axis.X (hits self.old.lent) (hits self.new.lent) }
         ensures is { hits self.new.lent ≡ tree before Axis.X (hits self.old.lent) }
-        ensures grid { self.new.grid ≡ self.old.grid }
     {
         self.lent.arrange();
     }
@@ -51,7 +41,7 @@ impl Sheet<'_> {
     pub fn hits(&self) -> &[Cell]
         ensures { result.now ≡ hits self.now.lent }
     {
-        &self.lent.cells[..self.lent.held]
+        self.lent.hits()
     }
 
     /// The grid of the sheet.

@@ -1,5 +1,10 @@
-use Rattle.sheet.proofs.Running.{Ran}
+use Rattle.std.proofs.Common.{◌≡◌, take, drop}
+use Rattle.sheet.specs.Runs.{Runs}
 use Rattle.sheet.proofs.sheet.Sheet.run.Given as goal
 
-abbrev pub invariant-loop-i : goal.invariant-loop-i
-invariant-loop-i l = Ran l.initial.self.grid l.initial.self.lent l.initial.journal l.i l.self.grid l.self.lent l.journal
+-- the entries in front are answered, and those behind are as they were
+abbrev pub invariant-loop-entry : goal.invariant-loop-entry
+invariant-loop-entry l = record {
+  ran : Runs l.initial.self l.self (take l.entry-index l.initial.journal) (take l.entry-index l.journal);
+  waiting : drop l.entry-index l.journal ≡ drop l.entry-index l.initial.journal;
+}
