@@ -1,21 +1,11 @@
 //! Runs of calls on sheets.
 use grid::{Cell, Grid};
-use sheet::{Call, Entry, run_new};
+use sheet::{Call, Entry, Refusal, run_new};
 use std::test::Fail;
-
-/// The number that an answer is printed as: the hits held, or 1,000 and the refusal's number.
-fn told(entry: Entry) -> usize {
-    match entry.answer {
-        Ok(held) => held.min(999),
-        Err(refused) => 1000 + refused.number() as usize,
-    }
-}
 
 #[test]
 fn a_run_answers_each_call(rt: HostRuntime) -> Result<(), Fail> {
-    let Ok(grid) = Grid::new(4) else {
-        return Err(Fail::new("a side of 4"));
-    };
+    let grid = Grid::new(4).map_err(|_| Fail::new("a side of 4"))?;
     let here = Cell { x: 1, y: 3 };
     let there = Cell { x: 3, y: 1 };
     let off = Cell { x: 4, y: 0 };
@@ -36,9 +26,22 @@ fn a_run_answers_each_call(rt: HostRuntime) -> Result<(), Fail> {
     ];
     let sheet = run_new(grid, &mut cells, &mut journal);
     assert_eq!(rt; sheet.held(), 0);
-    let expected = [0, 1004, 1002, 1, 2, 1003, 1004, 1, 2, 2, 0, 1002];
-    for i in 0..12 {
-        assert_eq!(rt; told(journal[i]), expected[i]);
+    let expected = [
+        Ok(0),
+        Err(Refusal::NotHeld),
+        Err(Refusal::OffGrid),
+        Ok(1),
+        Ok(2),
+        Err(Refusal::Full),
+        Err(Refusal::NotHeld),
+        Ok(1),
+        Ok(2),
+        Ok(2),
+        Ok(0),
+        Err(Refusal::OffGrid),
+    ];
+    for (entry, answer) in journal.iter().zip(expected) {
+        assert_eq!(rt; entry.answer, answer);
     }
     Ok(())
 }

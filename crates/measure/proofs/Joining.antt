@@ -1,6 +1,5 @@
 -- Whatever is joined from the same hits is their one figure. Assumes nothing.
-use Rattle.std.proofs.Common.{◌≡◌, ℕ, ◌+◌, ◌<◌, ◌≤◌, List, [], ◌∷◌, ◌++◌, length, get_or, take, sym, refl, ap, ◌∙◌, arith}
-use Rattle.std.proofs.lemmas.List.{take_more, take_all}
+use Rattle.std.proofs.Common.{◌≡◌, ℕ, ◌<◌, List, [], ◌∷◌, ◌++◌, fold, sym, refl, ap, ◌∙◌, arith}
 use Rattle.std.proofs.lemmas.Bool.{cond-true}
 use Rattle.grid.specs.Cells.{same, count}
 use Rattle.grid.specs.declared.cell.Cell.{Cell}
@@ -8,10 +7,6 @@ use Rattle.grid.proofs.Sames.{same_equal, same_self}
 use Rattle.arrange.proofs.Counted.{Found, found, count-cons, count-append, count-parts}
 use Rattle.measure.specs.Measures.{Figures, MeasureLaws, Joins, figure, SameHits, InAnyOrder}
 use Rattle.measure.specs.Measures.Joins.{no_hit, a_hit, both}
-
-pub figure-none : {F : Type 0} (m : Figures F) → figure m [] ≡ m.none
-unfolding figure
-figure-none m = refl
 
 -- the figure of a list of hits is joined from it
 pub figure_joins : {F : Type 0} (m : Figures F) (hits : List Cell) → Joins m hits (figure m hits)
@@ -89,17 +84,14 @@ module _ {F : Type 0} (m : Figures F) (laws : MeasureLaws m) where
   pub in_any_order : (hits : List Cell) (f : F) → f ≡ figure m hits → InAnyOrder m hits f
   in_any_order hits f is others g often joins = joined joins ∙ sym (figure-same hits others often) ∙ sym is
 
-  -- one more hit is joined behind the others
-  pub figure-more :
-      (hits : List Cell) (i : ℕ) (d : Cell) (f g h : F) → i < length hits → f ≡ figure m (take i hits) → g ≡ m.one (get_or hits i d) → h ≡ m.join f g
-      → h ≡ figure m (take (i + 1) hits)
-  figure-more hits i d f g h inside before one more =
-      more
-      ∙ ap (λ e. m.join e g) before
-      ∙ ap (m.join (figure m (take i hits))) (one ∙ sym (figure_one (get_or hits i d)))
-      ∙ sym (figure-append (take i hits) (get_or hits i d ∷ []))
-      ∙ ap (figure m) (sym (take_more hits i d inside))
+  -- the hits, one after the other, joined to a figure
+  figure-fold : (hits : List Cell) (g : F) → m.Good g → fold (λ f c. m.join f (m.one c)) g hits ≡ m.join g (figure m hits)
+  unfolding figure
+  figure-fold [] g good = sym (neutral_right g good)
+  figure-fold (c ∷ cs) g good =
+      figure-fold cs (m.join g (m.one c)) (laws.join_good _ _ good (laws.one_good c))
+      ∙ laws.associative g (m.one c) (figure m cs) good (laws.one_good c) (figure_good cs)
 
-  -- the first hits are all
-  pub figure-all : (hits : List Cell) (i : ℕ) (f : F) → length hits ≤ i → f ≡ figure m (take i hits) → f ≡ figure m hits
-  figure-all hits i f all is = is ∙ ap (figure m) (take_all i hits all)
+  -- joined to none, they have their figure
+  pub figure_gathered : (hits : List Cell) → fold (λ f c. m.join f (m.one c)) m.none hits ≡ figure m hits
+  figure_gathered hits = figure-fold hits m.none laws.none_good ∙ laws.neutral (figure m hits) (figure_good hits)

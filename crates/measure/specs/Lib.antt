@@ -3,3 +3,4 @@ pub mod Counts
 pub mod Sums
 pub mod Extents
 pub mod Laws
+pub mod Plain

@@ -2,29 +2,25 @@
 ghost use Rattle.std.specs.Prelude.{◌≡◌, ◌%◌, ◌^◌, length};
 ghost use Rattle.measure.specs.Counts.{counts};
 ghost use Rattle.measure.specs.Laws.{count_laws};
+ghost use Rattle.measure.specs.Plain.{counted};
 
-use crate::{Measure, figure_of};
+use crate::Measure;
 use grid::Cell;
 
 /// Counts hits, modulo 2^64.
-#[derive(Clone, Copy)]
+#[derive(Clone, Copy, Debug, PartialEq, Eq)]
 pub struct Count;
-
-impl Count {
-    /// How many hits there are, modulo 2^64.
-    pub fn of(hits: &[Cell]) -> u64
-        ensures { result ≡ length hits.now % 2 ^ 64 }
-    {
-        figure_of(&Count, hits)
-    }
-}
 
 impl Measure for Count {
     type Figure = u64;
 
     ghost figures = { λ s. counts };
 
+    ghost tells = { λ s hits n. n ≡ length hits % 2 ^ 64 };
+
     ghost sound = { λ s. count_laws };
+
+    ghost told = { λ s. counted };
 
     fn none(&self) -> u64 {
         0

@@ -1,13 +1,14 @@
 //! How far hits reach.
 ghost use Rattle.measure.specs.Extents.{Smallest, extents};
 ghost use Rattle.measure.specs.Laws.{extent_laws};
+ghost use Rattle.measure.specs.Plain.{smallest};
 
-use crate::{Measure, figure_of};
+use crate::Measure;
 use grid::Cell;
 
 /// The least and the greatest x, `left` and `right`, and the least and the greatest y, `low` and `high`, of hits. Of no
 /// hit each least is 4,294,967,295 and each greatest 0.
-#[derive(Clone, Copy)]
+#[derive(Clone, Copy, Debug, PartialEq, Eq)]
 pub struct Bounds {
     pub left: u32,
     pub right: u32,
@@ -16,24 +17,19 @@ pub struct Bounds {
 }
 
 /// Finds the smallest box that has all hits.
-#[derive(Clone, Copy)]
+#[derive(Clone, Copy, Debug, PartialEq, Eq)]
 pub struct Extent;
-
-impl Extent {
-    /// The smallest box that has every hit.
-    pub fn of(hits: &[Cell]) -> Bounds
-        ensures { Smallest hits.now result }
-    {
-        figure_of(&Extent, hits)
-    }
-}
 
 impl Measure for Extent {
     type Figure = Bounds;
 
     ghost figures = { λ s. extents };
 
+    ghost tells = { λ s hits box. Smallest hits box };
+
     ghost sound = { λ s. extent_laws };
+
+    ghost told = { λ s. smallest };
 
     fn none(&self) -> Bounds {
         Bounds {

@@ -2,12 +2,13 @@
 ghost use Rattle.std.specs.Prelude.{◌≡◌};
 ghost use Rattle.measure.specs.Sums.{sums, totals};
 ghost use Rattle.measure.specs.Laws.{sums_laws};
+ghost use Rattle.measure.specs.Plain.{summed};
 
-use crate::{Measure, figure_of};
+use crate::Measure;
 use grid::Cell;
 
 /// Sums of x, of y and of x² + y² over hits, each modulo 2^64.
-#[derive(Clone, Copy)]
+#[derive(Clone, Copy, Debug, PartialEq, Eq)]
 pub struct Totals {
     pub x: u64,
     pub y: u64,
@@ -15,24 +16,19 @@ pub struct Totals {
 }
 
 /// Adds up the coordinates of hits and the squares of their distances from the corner.
-#[derive(Clone, Copy)]
+#[derive(Clone, Copy, Debug, PartialEq, Eq)]
 pub struct Sums;
-
-impl Sums {
-    /// The sums over the hits.
-    pub fn of(hits: &[Cell]) -> Totals
-        ensures { result ≡ totals hits.now }
-    {
-        figure_of(&Sums, hits)
-    }
-}
 
 impl Measure for Sums {
     type Figure = Totals;
 
     ghost figures = { λ s. sums };
 
+    ghost tells = { λ s hits sum. sum ≡ totals hits };
+
     ghost sound = { λ s. sums_laws };
+
+    ghost told = { λ s. summed };
 
     fn none(&self) -> Totals {
         Totals {
