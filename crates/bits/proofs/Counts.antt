@@ -1,14 +1,14 @@
 -- The number of 1 bits. Assumes nothing.
-use Rattle.std.proofs.Common.{◌≡◌, ℕ, zero, suc, ◌+◌, ◌-◌, ◌*◌, ◌/◌, ◌%◌, ◌^◌, ◌<◌, ◌≤◌, List, length, drop, sum, sym, ap, ◌∙◌, ⊎_elim, lt_of_lt_of_le, mod-lt, mod-eq_of_lt, add_comm, add-one, arith, pow_pos, pow_mono}
+use Rattle.std.proofs.Common.{◌≡◌, ℕ, zero, suc, ◌+◌, ◌-◌, ◌*◌, ◌/◌, ◌%◌, ◌^◌, ◌<◌, ◌≤◌, List, length, drop, sum, sym, ap, ◌∙◌, ⊎_elim, mod-lt, mod-eq_of_lt, add_comm, add-one, subst, arith, lit<, pow_pos}
 use lib.Count.{ones, ones_step, ones_cat, ones-le}
 use lib.Pow.{mod-pow-add}
-use Rattle.std.proofs.lemmas.List.{drop-drop}
+use Rattle.std.proofs.lemmas.List.{drop_all, drop-drop}
 use Rattle.std.proofs.lemmas.List.Sums.{sum_by-cons}
 use Rattle.std.proofs.ByRecursion.{All-drop}
 use Rattle.std.proofs.lemmas.Bool.{cases_lt}
 use Rattle.bits.specs.Packing.{value, digits, unpacked, Narrow}
 use Rattle.bits.proofs.Packings.{mod_fewer}
-use Rattle.bits.proofs.Words.{value-behind, value_few}
+use Rattle.bits.proofs.Words.{value-behind}
 
 one_bit : (n : ℕ) → ones (n % 2) ≡ n % 2
 unfolding ones
@@ -52,13 +52,14 @@ few_marks bytes from count narrow few =
     ∙ ap (λ n. ones (n % 2 ^ count)) (value-behind 8 from bytes narrow)
     ∙ ap ones (sym (mod_fewer (value 8 bytes / 2 ^ (8 * from)) less))
 
--- marks that reach past the end of the bytes
-pub last-marks : (bytes : List ℕ) (from count : ℕ) → Narrow 8 bytes → 64 ≤ count → length bytes < from + 8 → sum (unpacked 1 count (drop from bytes)) ≡ ones (value 8 bytes / 2 ^ (8 * from) % 2 ^ 64)
-last-marks bytes from count narrow more short =
-    let small : value 8 (drop from bytes) < 2 ^ 64 = value_few 8 bytes from narrow (omega arith) in
-    sum_marks count (value 8 (drop from bytes))
-    ∙ ap ones (mod-eq_of_lt (lt_of_lt_of_le small (pow_mono more)) ∙ sym (mod-eq_of_lt small))
-    ∙ ap (λ n. ones (n % 2 ^ 64)) (value-behind 8 from bytes narrow)
+-- past the end of the bytes there are none
+pub past_marks : (bytes : List ℕ) (from count : ℕ) → length bytes ≤ from → sum (unpacked 1 count (drop from bytes)) ≡ 0
+unfolding value
+past_marks bytes from count past =
+    let none : 0 % 2 ^ count < 2 ^ 0 = subst (λ n. n < 2 ^ 0) (sym (mod-eq_of_lt (pow_pos count))) (lit< tt) in
+    ap (λ l. sum (unpacked 1 count l)) (drop_all from bytes past)
+    ∙ sum_marks count 0
+    ∙ omega (arith, ones-le 0 (0 % 2 ^ count) none)
 
 pub marks-le : (k n : ℕ) → sum (digits 1 k n) ≤ k
 marks-le k n = omega (arith, sum_marks k n, ones-le k (n % 2 ^ k) (mod-lt n (pow_pos k)))

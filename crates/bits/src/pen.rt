@@ -3,9 +3,11 @@ ghost use Rattle.std.specs.Prelude.{◌^◌, ◌<◌};
 
 mod writing;
 
-/// Where the writing of packed numbers stands: `at` bytes are written, and the last `fill` bits are not yet.
-#[derive(Clone, Copy)]
-pub struct Pen {
+/// Lent bytes that packed numbers are written into, from the front on: `at` bytes are written, and the last `fill` bits are
+/// not yet.
+#[derive(Drop)]
+pub struct Pen<'a> {
+    out: &'a mut [u8],
     at: usize,
     bits: u64,
     fill: u32,

@@ -1,5 +1,5 @@
 //! Reading numbers out of bytes.
-ghost use Rattle.std.specs.Prelude.{◌≡◌, ◌+◌, ◌*◌, ◌/◌, ◌%◌, ◌^◌, ◌<◌, ◌≤◌, length, take, nat_le, nat_lt};
+ghost use Rattle.std.specs.Prelude.{◌≡◌, ◌+◌, ◌*◌, ◌/◌, ◌%◌, ◌^◌, ◌<◌, ◌≤◌, length, take, nat_lt};
 ghost use Rattle.bits.specs.Packing.{value};
 
 use crate::Width;
@@ -26,10 +26,8 @@ pub fn read(bytes: &[u8], at: usize, width: Width) -> u64
 pub fn bit(bytes: &[u8], at: usize) -> u64
     ensures { result ≡ value 8 bytes.now / 2 ^ at % 2 }
 {
-    if is_past(bytes, at / 8) {
-        return 0;
-    }
-    (u64::from(bytes[at / 8]) >> (at % 8)) % 2
+    let byte = bytes.get(at / 8).copied().unwrap_or(0);
+    (u64::from(byte) >> (at % 8)) % 2
 }
 
 /// Whether the bits behind the first `bits` are 0, up to the end of their byte.
@@ -63,32 +61,18 @@ pub(crate) fn whole_word(bytes: &[u8], from: usize) -> u64
     requires { from + 8 ≤ length bytes.now }
     ensures { result ≡ value 8 bytes.now / 2 ^ (8 * from) % 2 ^ 64 }
 {
-    u64::from_le_bytes([
-        bytes[from],
-        bytes[from + 1],
-        bytes[from + 2],
-        bytes[from + 3],
-        bytes[from + 4],
-        bytes[from + 5],
-        bytes[from + 6],
-        bytes[from + 7],
-    ])
+    u64::from_le_bytes(*bytes[from..].first_chunk().unwrap())
 }
 
-// The bytes that are left. It calls itself, and so stays a call: the way of whole words has no loop in it.
+// The bytes that are left, with 0 behind them. It stays a call, so that the way of whole words copies nothing.
+#[cold]
+#[inline(never)]
 fn last_word(bytes: &[u8], from: usize) -> u64
     requires { length bytes.now < from + 8 }
     ensures { result ≡ value 8 bytes.now / 2 ^ (8 * from) % 2 ^ 64 }
 {
-    if is_past(bytes, from) {
-        return 0;
-    }
-    last_word(bytes, from + 1) * 256 + u64::from(bytes[from])
-}
-
-// Whether there is no byte from there on.
-fn is_past(bytes: &[u8], from: usize) -> bool
-    ensures { result ≡ nat_le (length bytes.now) from }
-{
-    from >= bytes.len()
+    let rest = &bytes[from.min(bytes.len())..];
+    let mut word = [0; 8];
+    word[..rest.len()].copy_from_slice(rest);
+    u64::from_le_bytes(word)
 }

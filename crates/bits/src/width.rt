@@ -6,7 +6,7 @@ ghost use Rattle.bits.specs.Widths.{allowed};
 pub const MOST_BITS: u32 = 48;
 
 /// The number of bits that each number takes, from 1 to 48.
-#[derive(Clone, Copy)]
+#[derive(Clone, Copy, Debug, PartialEq, Eq)]
 pub struct Width {
     bits: u32,
     ghost low: { 1 ≤ bits },
@@ -15,28 +15,21 @@ pub struct Width {
 
 impl Width {
     /// The width of a mark.
-    pub fn mark() -> Width
-        ensures { result.bits ≡ 1 }
-    {
-        Width { bits: 1 }
-    }
+    pub const MARK: Width = Width { bits: 1 };
 
     /// The width of a count.
-    pub fn count() -> Width
-        ensures { result.bits ≡ 32 }
-    {
-        Width { bits: 32 }
-    }
+    pub const COUNT: Width = Width { bits: 32 };
 
     /// The width of so many bits, where that is from 1 to 48.
     pub fn new(bits: u32) -> Option<Width>
         ensures allowed { is_some result ≡ allowed bits }
         ensures made { IfSome result (λ w. w.bits ≡ bits) }
     {
-        if bits < 1 || bits > MOST_BITS {
-            return None;
+        if (1..=MOST_BITS).contains(&bits) {
+            Some(Width { bits })
+        } else {
+            None
         }
-        Some(Width { bits })
     }
 
     /// The number of bits.

@@ -1,70 +1,91 @@
 //! Writing numbers into bytes, one after another.
-ghost use Rattle.std.specs.Prelude.{◌≡◌, ℕ, ◌+◌, ◌-◌, ◌%◌, ◌^◌, ◌≤◌, List, [], ◌∷◌, ◌++◌, length, take, drop, if◌then◌else◌};
-ghost use Rattle.bits.specs.Packing.{digits, room, packed};
+ghost use Rattle.std.specs.Prelude.{◌≡◌, ℕ, ◌+◌, ◌%◌, ◌^◌, ◌≤◌, List, [], ◌∷◌, ◌++◌, length, take, drop, if◌then◌else◌};
+ghost use Rattle.bits.specs.Packing.{digits, room, packed, Narrow};
 ghost use Rattle.bits.specs.Writing.{Written};
 
 use crate::reading::low_bits;
 use crate::{Pen, Width};
 
-impl Pen {
-    /// A pen that has written nothing.
-    pub fn new() -> Pen
-        ensures { (w : ℕ) (start : List ℕ) → Written w result start start [] }
+impl<'a> Pen<'a> {
+    /// A pen at the front of the bytes, which has written nothing.
+    pub fn new(out: &'a mut [u8]) -> Pen<'a>
+        ensures written { (w : ℕ) → Written w result out.old [] }
+        ensures lent { result.out.ghost_name ≡ out.entry.ghost_name }
     {
         Pen {
+            out,
             at: 0,
             bits: 0,
             fill: 0,
         }
     }
+}
 
+impl Pen<'_> {
     /// Writes the lowest bits of a number behind the numbers written before.
-    pub fn push(self, out: &mut [u8], width: Width, number: u64) -> Pen
-        ensures { (start xs : List ℕ) → room width.bits (length xs + 1) ≤ length start → Written width.bits self start out.old xs → Written width.bits result start out.new (xs ++ number % 2 ^ width.bits ∷ []) }
+    pub fn push(&mut self, width: Width, number: u64)
+        ensures written { (start xs : List ℕ) → room width.bits (length xs + 1) ≤ length start → Written width.bits self.old start xs → Written width.bits self.new start (xs ++ number % 2 ^ width.bits ∷ []) }
+        ensures lent { self.new.out.ghost_name ≡ self.old.out.ghost_name }
     {
-        self.push_bits(out, width.bits(), number)
+        self.push_bits(width.bits(), number);
     }
 
     /// Writes the lowest bits of a number where it is there, and nothing where it is not. Neither has a branch of its own:
     /// which numbers are there cannot be foreseen.
-    pub fn push_if(self, out: &mut [u8], width: Width, number: u64, there: bool) -> Pen
-        ensures { (start xs : List ℕ) → room width.bits (length (xs ++ (if there then number % 2 ^ width.bits ∷ [] else []))) ≤ length start → Written width.bits self start out.old xs → Written width.bits result start out.new (xs ++ (if there then number % 2 ^ width.bits ∷ [] else [])) }
+    pub fn push_if(&mut self, width: Width, number: u64, there: bool)
+        ensures written { (start xs : List ℕ) → room width.bits (length (xs ++ (if there then number % 2 ^ width.bits ∷ [] else []))) ≤ length start → Written width.bits self.old start xs → Written width.bits self.new start (xs ++ (if there then number % 2 ^ width.bits ∷ [] else [])) }
+        ensures lent { self.new.out.ghost_name ≡ self.old.out.ghost_name }
     {
-        self.push_bits(out, bits_if(there, width.bits()), number)
+        self.push_bits(bits_if(there, width.bits()), number);
+    }
+
+    /// Writes a mark where it is there.
+    pub fn push_mark_if(&mut self, mark: bool, there: bool)
+        ensures written { (start xs : List ℕ) → room 1 (length (xs ++ (if there then (if mark then 1 else 0) ∷ [] else []))) ≤ length start → Written 1 self.old start xs → Written 1 self.new start (xs ++ (if there then (if mark then 1 else 0) ∷ [] else [])) }
+        ensures lent { self.new.out.ghost_name ≡ self.old.out.ghost_name }
+    {
+        self.push_if(Width::MARK, u64::from(mark), there);
+    }
+
+    /// Writes a count.
+    pub fn push_count(&mut self, count: u32)
+        ensures written { (start xs : List ℕ) → room 32 (length xs + 1) ≤ length start → Written 32 self.old start xs → Written 32 self.new start (xs ++ count ∷ []) }
+        ensures lent { self.new.out.ghost_name ≡ self.old.out.ghost_name }
+    {
+        self.push(Width::COUNT, u64::from(count));
     }
 
     // Writes so many of the lowest bits of a number.
-    fn push_bits(self, out: &mut [u8], wide: u32, number: u64) -> Pen
+    fn push_bits(&mut self, wide: u32, number: u64)
         requires { wide ≤ 48 }
-        ensures pushed { (start xs : List ℕ) → room wide (length xs + 1) ≤ length start → Written wide self start out.old xs → Written wide result start out.new (xs ++ number % 2 ^ wide ∷ []) }
-        ensures none { wide ≡ 0 → (result.at ≡ self.at) × (result.bits ≡ self.bits) × (result.fill ≡ self.fill) × (out.new ≡ out.old) }
+        ensures written { (start xs : List ℕ) → room wide (length xs + 1) ≤ length start → Written wide self.old start xs → Written wide self.new start (xs ++ number % 2 ^ wide ∷ []) }
+        ensures none { wide ≡ 0 → (self.new.at ≡ self.old.at) × (self.new.bits ≡ self.old.bits) × (self.new.fill ≡ self.old.fill) × (self.new.out.now ≡ self.old.out.now) }
+        ensures lent { self.new.out.ghost_name ≡ self.old.out.ghost_name }
     {
         let number = low_bits(number, wide);
         let bits = self.bits | number << self.fill;
         let fill = self.fill + wide;
         if fill < 64 {
-            return Pen {
-                at: self.at,
-                bits,
-                fill,
-            };
+            self.bits = bits;
+            self.fill = fill;
+            return;
         }
-        let at = put_word(out, self.at, bits);
-        Pen {
-            at,
-            bits: number >> (64 - self.fill),
-            fill: fill - 64,
-        }
+        self.at = put_bytes(self.out, self.at, 8, bits);
+        self.bits = number >> (64 - self.fill);
+        self.fill = fill - 64;
     }
 
     /// Writes the bits that are left, and fills the last byte up with 0 bits.
-    pub fn finish(self, out: &mut [u8])
-        ensures { (w : ℕ) (start xs : List ℕ) → room w (length xs) ≤ length start → Written w self start out.old xs → out.new ≡ packed w xs ++ drop (room w (length xs)) start }
+    pub fn finish(self)
+        ensures { (w : ℕ) (start xs : List ℕ) → room w (length xs) ≤ length start → Written w self.entry start xs → self.exit.0.now ≡ packed w xs ++ drop (room w (length xs)) start }
     {
-        let count = (self.fill as usize + 7) / 8;
-        if self.at <= out.len() && count <= out.len() - self.at {
-            put_bytes(out, self.at, self.at + count, self.bits);
-        }
+        let Pen {
+            out,
+            at,
+            bits,
+            fill,
+        } = self;
+        put_bytes(out, at, (fill as usize + 7) / 8, bits);
     }
 }
 
@@ -77,25 +98,15 @@ fn bits_if(there: bool, bits: u32) -> u32
     if there { bits } else { 0 }
 }
 
-// Puts eight bytes where there is a place for them, and gives the place behind them.
-fn put_word(out: &mut [u8], at: usize, word: u64) -> usize
-    ensures { at + 8 ≤ length out.old → (result ≡ at + 8) × (out.new ≡ take at out.old ++ (digits 8 8 word ++ drop (at + 8) out.old)) }
+// Puts the lowest bytes of a number, the least first, where there is a place for them, and gives the place behind them.
+fn put_bytes(out: &mut [u8], at: usize, count: usize, number: u64) -> usize
+    requires { count ≤ 8 }
+    ensures put { at + count ≤ length out.old → (result ≡ at + count) × (out.new ≡ take at out.old ++ (digits 8 count number ++ drop (at + count) out.old)) }
+    ensures bytes { Narrow 8 out.new }
 {
-    if at > out.len() || out.len() - at < 8 {
+    if at > out.len() || out.len() - at < count {
         return at;
     }
-    out[at..at + 8].copy_from_slice(&word.to_le_bytes());
-    at + 8
-}
-
-// Puts the lowest bytes of a number, the least first.
-fn put_bytes(out: &mut [u8], from: usize, to: usize, number: u64)
-    requires { (from ≤ to) × (to ≤ length out.old) }
-    ensures { out.new ≡ take from out.old ++ (digits 8 (to - from) number ++ drop to out.old) }
-{
-    let mut rest = number;
-    for i in from..to {
-        out[i] = (rest % 256) as u8;
-        rest /= 256;
-    }
+    out[at..at + count].copy_from_slice(&number.to_le_bytes()[..count]);
+    at + count
 }
