@@ -1,4 +1,3 @@
-mod Trailers
 pub mod Coding
 pub mod CodeLists
 mod Writing
