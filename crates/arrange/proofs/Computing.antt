@@ -4,14 +4,14 @@ use Rattle.std.specs.List.{AllByRecursion}
 use Rattle.std.proofs.ByRecursion.{All-weaker, All-get_or}
 use Rattle.std.proofs.lemmas.List.{length-take-le, drop_more}
 use Rattle.std.proofs.lemmas.Bool.{cases_Bool, both_ways, cond_both}
-use Rattle.select.specs.Orders.{TotalOrders}
+use Rattle.select.specs.Orders.{TotalOrders, other}
 use Rattle.select.specs.Selections.{SameElements, Selected}
 use Rattle.select.specs.declared.element.Axis.{Axis}
 use Rattle.select.specs.CellOrders.{before as cell_before}
 use Rattle.select.specs.Keys.{cells_total}
 use Rattle.grid.specs.Cells.{count}
 use Rattle.grid.specs.declared.cell.Cell.{Cell}
-use Rattle.arrange.specs.Trees.{Arranges, EquallyOften, other, middle}
+use Rattle.arrange.specs.Trees.{Arranges, EquallyOften, middle}
 use Rattle.arrange.specs.Computed.{insert, ordered, around, tree_to, tree}
 use Rattle.arrange.proofs.Counted.{tick, count-cons, same_length}
 use Rattle.arrange.proofs.Totals.{same_from_often}

@@ -2,8 +2,9 @@
 use Rattle.std.proofs.Common.{◌≡◌, ℕ, ◌+◌, ◌<◌, Bool, false, List, [], ◌∷◌, ◌++◌, length, get_or, take, drop, sym, refl, ap, ◌∙◌, subst, arith}
 use Rattle.std.specs.List.{AllByRecursion}
 use Rattle.std.proofs.lemmas.List.{take_at, drop_at, get_or_at, drop_more, take-append-drop, length-take-le, drop-drop}
+use Rattle.select.specs.Orders.{other}
 use Rattle.select.specs.declared.element.Axis.{Axis}
-use Rattle.arrange.specs.Trees.{Arranged, nothing, split, other, middle}
+use Rattle.arrange.specs.Trees.{Arranged, nothing, split, middle}
 
 -- the middle element of a list that is not empty, with the two sides
 pub record Cut {E : Type 0} (before : Axis → E → E → Bool) (axis : Axis) (xs : List E) : Type 0 where

@@ -1,23 +1,20 @@
 -- A list of one element many times is arranged as it is. Assumes nothing.
-use Rattle.std.proofs.Common.{◌≡◌, ℕ, zero, suc, ◌+◌, ◌-◌, ◌<◌, ◌≤◌, Bool, false, List, [], ◌∷◌, length, get_or, take, drop, sym, refl, ap, ◌∙◌, subst, ⊎_elim, arith, length-drop}
+use Rattle.std.proofs.Common.{◌≡◌, ℕ, zero, suc, ◌+◌, ◌<◌, ◌≤◌, Bool, false, List, [], ◌∷◌, length, get_or, take, drop, sym, refl, ◌∙◌, subst, ⊎_elim, arith, length-drop}
+use Rattle.std.specs.List.{All}
 use Rattle.std.proofs.lemmas.List.{length-take-le, get_or-take, get_or-drop}
 use Rattle.std.proofs.lemmas.Bool.{cases_lt}
-use Rattle.select.specs.Orders.{TotalOrders}
+use Rattle.select.specs.Orders.{TotalOrders, other}
 use Rattle.select.specs.Selections.{Selected}
 use Rattle.select.specs.declared.element.Axis.{Axis}
-use Rattle.arrange.specs.Trees.{Arranges, other, middle}
+use Rattle.arrange.specs.Trees.{Arranges, middle}
 use Rattle.arrange.proofs.Cuts.{at_place}
 use Rattle.arrange.proofs.Sides.{short_arranges, cut_arranges}
-
--- each element of a list is x
-abbrev Flat : {E : Type 0} → E → List E → Type 0
-Flat {E} x xs = (k : ℕ) (d : E) → k < length xs → get_or xs k d ≡ x
 
 module _ {E : Type 0} (before : Axis → E → E → Bool) (total : TotalOrders before) (x : E) where
   none_before : (axis : Axis) (e f : E) → e ≡ x → f ≡ x → before axis e f ≡ false
   none_before axis e f p q = (λ i. before axis (p i) (q i)) ∙ total.irreflexive axis x
 
-  flat_selected : (axis : Axis) (xs : List E) (m : ℕ) → Flat x xs → Selected (before axis) xs m xs
+  flat_selected : (axis : Axis) (xs : List E) (m : ℕ) → All (λ e. e ≡ x) xs → Selected (before axis) xs m xs
   flat_selected axis xs m flat = record {
     kept = λ test. refl;
     long = refl;
@@ -29,7 +26,7 @@ module _ {E : Type 0} (before : Axis → E → E → Bool) (total : TotalOrders 
   }
 
   -- both sides of a flat list are flat; the first number says how often sides may have sides
-  flat_to : (n : ℕ) (axis : Axis) (xs : List E) → length xs ≤ n → Flat x xs → Arranges before axis xs xs
+  flat_to : (n : ℕ) (axis : Axis) (xs : List E) → length xs ≤ n → All (λ e. e ≡ x) xs → Arranges before axis xs xs
   flat_to zero axis xs short flat = short_arranges before axis xs (omega arith)
   flat_to (suc n) axis xs short flat =
       ⊎_elim
@@ -45,17 +42,7 @@ module _ {E : Type 0} (before : Axis → E → E → Bool) (total : TotalOrders 
       (flat_to n (other axis) (drop (m + 1) xs) (omega arith) (λ k d h. get_or-drop (m + 1) xs k d ∙ flat (m + 1 + k) d (omega arith)))))
       (cases_lt (length xs) 2)
 
--- a list that is the same one place on has one element only
-shifted : {E : Type 0} (xs : List E) (d : E) → take (length xs - 1) xs ≡ drop 1 xs → (k : ℕ) → k < length xs → get_or xs k d ≡ get_or xs 0 d
-shifted xs d same zero inside = refl
-shifted xs d same (suc k) inside =
-    let next : suc k ≡ 1 + k = omega arith in
-    ap (λ j. get_or xs j d) next
-    ∙ sym (get_or-drop 1 xs k d)
-    ∙ ap (λ l. get_or l k d) (sym same)
-    ∙ get_or-take (length xs - 1) xs k d (omega arith)
-    ∙ shifted xs d same k (omega arith)
-
-pub flat_arranges : {E : Type 0} (before : Axis → E → E → Bool) (axis : Axis) (xs : List E) → TotalOrders before → take (length xs - 1) xs ≡ drop 1 xs → Arranges before axis xs xs
-flat_arranges before axis [] total same = short_arranges before axis [] (omega arith)
-flat_arranges before axis (x ∷ xs) total same = flat_to before total x (length (x ∷ xs)) axis (x ∷ xs) (omega arith) (λ k d inside. shifted (x ∷ xs) d same k inside)
+-- a list each of whose elements is the first one
+pub flat_arranges : {E : Type 0} (before : Axis → E → E → Bool) (axis : Axis) (xs : List E) → TotalOrders before → ((d : E) → All (λ e. e ≡ get_or xs 0 d) xs) → Arranges before axis xs xs
+flat_arranges before axis [] total flat = short_arranges before axis [] (omega arith)
+flat_arranges before axis (x ∷ xs) total flat = flat_to before total x (length (x ∷ xs)) axis (x ∷ xs) (omega arith) (flat x)

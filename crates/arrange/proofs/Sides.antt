@@ -6,8 +6,9 @@ use Rattle.std.proofs.ByRecursion.{All-from_get_or}
 use Rattle.std.proofs.lemmas.List.{append-nil, append_assoc, length-take-le, length_push, take_at, take_rest, drop_all, drop_more, get_or-take, get_or-drop}
 use Rattle.std.proofs.lemmas.Slice.{drop-append-drop}
 use Rattle.select.specs.Selections.{SameElements, Selected}
+use Rattle.select.specs.Orders.{other}
 use Rattle.select.specs.declared.element.Axis.{Axis}
-use Rattle.arrange.specs.Trees.{Arranges, other, middle}
+use Rattle.arrange.specs.Trees.{Arranges, middle}
 use Rattle.arrange.proofs.Counted.{count-parts, same_length, same_none}
 use Rattle.arrange.proofs.Cuts.{at_place, arranged_cut, arranged_short}
 
@@ -96,13 +97,13 @@ module _ {E : Type 0} (before : Axis → E → E → Bool) (axis : Axis) (xs ys 
 
 -- the same of the list as the code writes it
 pub sides_arranged :
-    {E : Type 0} (before : Axis → E → E → Bool) (axis : Axis) (xs ys ls rs : List E) (m : ℕ)
-    → 2 ≤ length xs → m ≡ middle (length xs) → Selected (before axis) xs m ys
-    → Arranges before (other axis) (take m ys) ls
-    → Arranges before (other axis) (take (length (left_written ys ls m) - (m + 1)) (drop (m + 1) (left_written ys ls m))) rs
+    {E : Type 0} (before : Axis → E → E → Bool) (axis side : Axis) (xs ys ls rs : List E) (m : ℕ)
+    → 2 ≤ length xs → m ≡ middle (length xs) → Selected (before axis) xs m ys → side ≡ other axis
+    → Arranges before side (take m ys) ls
+    → Arranges before side (take (length (left_written ys ls m) - (m + 1)) (drop (m + 1) (left_written ys ls m))) rs
     → Arranges before axis xs (both-written ys ls rs m)
-sides_arranged {E} before axis xs ys ls rs m some centred selected left right =
-    subst (Arranges before axis xs) (sym (joined ys ls m left_long rs d inside)) (cut_arranges before axis xs ys ls rs m d centred (omega arith) selected left right_arranged)
+sides_arranged {E} before axis side xs ys ls rs m some centred selected crossed left right =
+    subst (Arranges before axis xs) (sym (joined ys ls m left_long rs d inside)) (cut_arranges before axis xs ys ls rs m d centred (omega arith) selected left_arranged right_arranged)
   where
     inside : m < length ys
     inside = omega (arith, selected.long)
@@ -113,5 +114,9 @@ sides_arranged {E} before axis xs ys ls rs m some centred selected left right =
     left_long : length ls ≡ m
     left_long = left.long ∙ length-take-le m ys (omega arith)
 
+    left_arranged : Arranges before (other axis) (take m ys) ls
+    left_arranged = subst (λ a. Arranges before a (take m ys) ls) crossed left
+
     right_arranged : Arranges before (other axis) (drop (m + 1) ys) rs
-    right_arranged = subst (λ zs. Arranges before (other axis) zs rs) (right_side ys ls m left_long) right
+    right_arranged =
+        subst (λ a. Arranges before a (drop (m + 1) ys) rs) crossed (subst (λ zs. Arranges before side zs rs) (right_side ys ls m left_long) right)

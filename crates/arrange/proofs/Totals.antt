@@ -1,8 +1,7 @@
 -- What follows from two total orders of an element: level elements are the same, and counts of each element tell all counts.
 -- Assumes nothing.
-use Rattle.std.proofs.Common.{◌≡◌, ℕ, ◌+◌, ◌<◌, Bool, true, false, not, List, [], ◌∷◌, ◌++◌, length, get_or, take, count_by, sym, refl, ap, ◌∙◌, ⊎_elim, arith}
-use Rattle.std.proofs.lemmas.List.{take_more_same, get_or_read}
-use Rattle.std.proofs.lemmas.Bool.{cases_Bool, cond-true, and_parts, and_from, not-true, not_from_false}
+use Rattle.std.proofs.Common.{◌≡◌, ℕ, ◌<◌, Bool, true, false, not, List, [], ◌∷◌, ◌++◌, count_by, sym, refl, ap, ◌∙◌, ⊎_elim, arith}
+use Rattle.std.proofs.lemmas.Bool.{cases_Bool, cond-true, and_parts, and_from, both_ways, not-true, not_from_false}
 use Rattle.select.specs.Orders.{TotalOrders}
 use Rattle.select.specs.Selections.{SameElements}
 use Rattle.select.specs.declared.element.Axis.{Axis}
@@ -31,12 +30,8 @@ module _ {E : Type 0} (before : Axis → E → E → Bool) (total : TotalOrders 
       let parts = and_parts (not (before X e f)) (not (before X f e)) is in
       total.same X e f (not-true (before X e f) parts.0) (not-true (before X f e) parts.1)
 
-  -- lists that are the same before a place, with level elements there, are the same up to it
-  pub level-more :
-      (xs ys : List E) (i : ℕ) (x y : E) → i < length xs → i < length ys → x ≡ get_or xs i x → y ≡ get_or ys i y → true ≡ level before x y
-      → take i xs ≡ take i ys → take (i + 1) xs ≡ take (i + 1) ys
-  level-more xs ys i x y in-xs in_ys at_x at_y is same =
-      take_more_same xs ys i x in-xs in_ys same (sym at_x ∙ level_equal x y (sym is) ∙ get_or_read ys i y in_ys at_y x)
+  pub not_level : (e f : E) → level before e f ≡ false → e ≡ f → ⊥
+  not_level e f is same = both_ways _ is (ap (λ g. level before g f) same ∙ level_self f)
 
   -- a list has its first element
   first_counted : (e : E) (es : List E) → 0 < count_by (level before e) (e ∷ es)

@@ -5,10 +5,10 @@ use Rattle.std.proofs.ByRecursion.{All-weaker}
 use Rattle.std.proofs.lemmas.List.{nil_from_length}
 use Rattle.std.proofs.lemmas.List.Sums.{count_by-le-length}
 use Rattle.std.proofs.lemmas.Bool.{cases_Bool, cond-true, cond-false, and_left, and_right, not_from_true}
-use Rattle.select.specs.Orders.{TotalOrders}
+use Rattle.select.specs.Orders.{TotalOrders, other}
 use Rattle.select.specs.Selections.{SameElements}
 use Rattle.select.specs.declared.element.Axis.{Axis}
-use Rattle.arrange.specs.Trees.{Arranged, nothing, split, Arranges, EquallyOften, OneArrangement, level, other, middle}
+use Rattle.arrange.specs.Trees.{Arranged, nothing, split, Arranges, EquallyOften, OneArrangement, level, middle}
 use Rattle.arrange.proofs.Counted.{tick, count-parts, count_none, count-all, count-both, count_same, same_length}
 use Rattle.arrange.proofs.Totals.{before_upper, same_from_often}
 use Rattle.arrange.proofs.Cuts.{Cut, cut_arranged}

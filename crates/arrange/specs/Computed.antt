@@ -1,7 +1,8 @@
 -- The arrangement as a list that is computed.
 use Rattle.std.specs.Prelude.{ℕ, zero, suc, ◌+◌, Bool, cond, List, [], ◌∷◌, ◌++◌, length, take, drop}
+use Rattle.select.specs.Orders.{other}
 use Rattle.select.specs.declared.element.Axis.{Axis}
-use Rattle.arrange.specs.Trees.{other, middle}
+use Rattle.arrange.specs.Trees.{middle}
 
 -- an element put into a list, in front of the first one that it is before
 unfoldable pub insert : {E : Type 0} → (E → E → Bool) → E → List E → List E

@@ -2,13 +2,9 @@
 use Rattle.std.specs.Prelude.{◌≡◌, ℕ, ◌-◌, ◌/◌, Bool, false, not, ◌&&◌, List, [], ◌∷◌, ◌++◌, length, count_by}
 use Rattle.std.specs.List.{AllByRecursion}
 use Rattle.select.specs.Selections.{SameElements}
+use Rattle.select.specs.Orders.{other}
 use Rattle.select.specs.declared.element.Axis.{Axis}
-use Rattle.select.specs.declared.element.Axis.TheVariants.{X, Y}
-
--- the axis by which the sides of a part are cut
-abbrev pub other : Axis → Axis
-other X = Y
-other Y = X
+use Rattle.select.specs.declared.element.Axis.TheVariants.{X}
 
 -- the place of the middle of n elements: the whole part of (first + last) ÷ 2, where the first place is 0 and the last n - 1
 abbrev pub middle : ℕ → ℕ

@@ -19,22 +19,14 @@ pub fn same_tree<E: Element>(a: &mut [E], b: &mut [E]) -> bool
 }
 
 /// Whether two lists are the same, place by place.
-pub(crate) fn equal<E: Element>(a: &[E], b: &[E]) -> bool
+fn equal<E: Element>(a: &[E], b: &[E]) -> bool
     ensures { Decides result (a.now ≡ b.now) }
 {
-    if a.len() != b.len() {
-        return false;
-    }
-    for i in 0..a.len() {
-        if !is_level(a[i], b[i]) {
-            return false;
-        }
-    }
-    true
+    a.len() == b.len() && a.iter().zip(b).all(|(e, f)| is_level(*e, *f))
 }
 
 /// Whether two elements are the same: neither is before the other.
-fn is_level<E: Element>(e: E, f: E) -> bool
+pub fn is_level<E: Element>(e: E, f: E) -> bool
     ensures { result ≡ level E.Element.before e f }
 {
     !e.is_before(f, Axis::X) && !f.is_before(e, Axis::X)

@@ -1,4 +1,4 @@
-mod Stirring
+mod Places
 mod Parting
 mod Narrowing
 mod Settling

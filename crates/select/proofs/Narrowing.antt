@@ -1,11 +1,15 @@
--- A window narrows to a side of the pivot, or to the place of an element level with it. Assumes nothing.
-use Rattle.std.proofs.Common.{◌≡◌, ℕ, ◌+◌, ◌<◌, ◌≤◌, Bool, true, false, not, List, length, get_or, sym, ap, ◌∙◌, ⊎_elim, arith}
+-- What is left is a side of the pivot, or the place of an element level with it. Assumes nothing.
+use Rattle.std.proofs.Common.{◌≡◌, ℕ, ◌+◌, ◌-◌, ◌<◌, ◌≤◌, Bool, true, false, not, List, length, get_or, sym, ap, ◌∙◌, ⊎_elim, arith}
+use borrow.Rule.Slice.PartMut.{mid_of, put_mid}
+use Rattle.std.specs.List.{All}
+use Rattle.std.specs.List.Sorted.{IsPermutation}
 use Rattle.std.proofs.lemmas.List.{get_or_read}
+use Rattle.std.proofs.lemmas.List.Sorted.{length_permutation, All-permutation}
 use Rattle.std.proofs.lemmas.Bool.{cases_lt, cases_eq, cases_Bool, both_ways, not-true}
 use Rattle.select.specs.Orders.{TotalOrders}
-use Rattle.select.specs.Windows.{Stirred, Parted, Halved, Divided, Narrowed}
+use Rattle.select.specs.Divisions.{Parted, Halved, Divided, Narrowed}
 use Rattle.select.specs.declared.element.Axis.{Axis}
-use Rattle.select.proofs.Stirring.{stirred_then, stirred_wider}
+use Rattle.select.proofs.Places.{length-mid, length_put, get_or-mid, get_or-put_below, get_or-put_inside}
 
 module _ {E : Type 0} {before : Axis → E → E → Bool} (orders : TotalOrders before) (axis : Axis) where
   not_behind : (a p : E) → before axis a p ≡ true → before axis p a ≡ false
@@ -25,100 +29,120 @@ module _ {E : Type 0} {before : Axis → E → E → Bool} (orders : TotalOrders
       level : before axis b a ≡ true → before axis a p ≡ false → ⊥
       level ba ap' = both_ways _ bp (ap (before axis b) (sym (orders.same axis a p ap' pa)) ∙ ba)
 
-  -- a window is divided at a border where none below it is behind the pivot, and none from it on is before the pivot
-  divided_by : (low high border middle : ℕ) (ys : List E) → ((k : ℕ) (d : E) → low ≤ k → k < border → before axis (get_or ys middle d) (get_or ys k d) ≡ false) → ((k : ℕ) (d : E) → border ≤ k → k < high → before axis (get_or ys k d) (get_or ys middle d) ≡ false) → Divided (before axis) low high border ys
-  divided_by low high border middle ys small great = λ j k d lj jb bk kh. across (get_or ys j d) (get_or ys k d) (get_or ys middle d) (small j d lj jb) (great k d bk kh)
+  -- a slice is divided at a border where none in front of it is behind the pivot, and none from it on is before the pivot
+  divided_by :
+      (border middle : ℕ) (ys : List E)
+      → ((k : ℕ) (d : E) → k < border → before axis (get_or ys middle d) (get_or ys k d) ≡ false)
+      → ((k : ℕ) (d : E) → border ≤ k → k < length ys → before axis (get_or ys k d) (get_or ys middle d) ≡ false)
+      → Divided (before axis) border ys
+  divided_by border middle ys small great = λ j k d jb bk kh. across (get_or ys j d) (get_or ys k d) (get_or ys middle d) (small j d jb) (great k d bk kh)
 
-  module _ {xs ys : List E} {low high middle : ℕ} (at : ℕ) (h : Halved (before axis) xs low high middle ys) where
-    small : (k : ℕ) (d : E) → low ≤ k → k ≤ middle → before axis (get_or ys middle d) (get_or ys k d) ≡ false
-    small k d l m =
+  module _ {ys : List E} {middle : ℕ} (at : ℕ) (h : Halved (before axis) middle ys) where
+    small : (k : ℕ) (d : E) → k ≤ middle → before axis (get_or ys middle d) (get_or ys k d) ≡ false
+    small k d m =
         ⊎_elim
         (λ q. ap (λ i. before axis (get_or ys middle d) (get_or ys i d)) q ∙ orders.irreflexive axis (get_or ys middle d))
-        (λ n. not_behind (get_or ys k d) (get_or ys middle d) (h.smaller k d l (omega (arith, n))))
+        (λ n. not_behind (get_or ys k d) (get_or ys middle d) (h.smaller k d (omega (arith, n))))
         (cases_eq k middle)
 
-    great : (k : ℕ) (d : E) → middle ≤ k → k < high → before axis (get_or ys k d) (get_or ys middle d) ≡ false
+    great : (k : ℕ) (d : E) → middle ≤ k → k < length ys → before axis (get_or ys k d) (get_or ys middle d) ≡ false
     great k d m g =
         ⊎_elim
         (λ q. ap (λ i. before axis (get_or ys i d) (get_or ys middle d)) q ∙ orders.irreflexive axis (get_or ys middle d))
         (λ n. h.others k d (omega (arith, n)) g)
         (cases_eq k middle)
 
-    pub narrowed_below : low ≤ at → at < middle → Narrowed (before axis) xs low high at ys low middle
-    narrowed_below from to = record {
-      stirred = h.stirred;
-      from = omega arith;
-      to = omega (arith, h.to);
-      first_at = from;
+    pub narrowed_below : at < middle → Narrowed (before axis) at 0 middle ys
+    narrowed_below to = record {
+      first_at = omega arith;
       at_last = to;
-      left = λ j k d lj jb bk kh. absurd (omega arith);
-      right = divided_by low high middle middle ys (λ k d l m. small k d l (omega arith)) (λ k d m g. great k d m g);
+      inside = omega (arith, h.inside);
+      left = λ j k d jb bk kh. absurd (omega arith);
+      right = divided_by middle middle ys (λ k d m. small k d (omega arith)) great;
     }
 
-    pub narrowed_there : at ≡ middle → Narrowed (before axis) xs low high at ys at (at + 1)
+    pub narrowed_there : at ≡ middle → Narrowed (before axis) at at (at + 1) ys
     narrowed_there e = record {
-      stirred = h.stirred;
-      from = omega (arith, h.from);
-      to = omega (arith, h.to);
       first_at = omega arith;
       at_last = omega arith;
-      left = divided_by low high at middle ys (λ k d l m. small k d l (omega arith)) (λ k d m g. great k d (omega arith) g);
-      right = divided_by low high (at + 1) middle ys (λ k d l m. small k d l (omega arith)) (λ k d m g. great k d (omega arith) g);
+      inside = omega (arith, h.inside);
+      left = divided_by at middle ys (λ k d m. small k d (omega arith)) (λ k d m g. great k d (omega arith) g);
+      right = divided_by (at + 1) middle ys (λ k d m. small k d (omega arith)) (λ k d m g. great k d (omega arith) g);
     }
 
-    pub narrowed_above : middle < at → at < high → Narrowed (before axis) xs low high at ys (middle + 1) high
+    pub narrowed_above : middle < at → at < length ys → Narrowed (before axis) at (middle + 1) (length ys) ys
     narrowed_above from to = record {
-      stirred = h.stirred;
-      from = omega (arith, h.from);
-      to = omega arith;
       first_at = omega arith;
       at_last = to;
-      left = divided_by low high (middle + 1) middle ys (λ k d l m. small k d l (omega arith)) (λ k d m g. great k d (omega arith) g);
-      right = λ j k d lj jb bk kh. absurd (omega arith);
+      inside = omega arith;
+      left = divided_by (middle + 1) middle ys (λ k d m. small k d (omega arith)) (λ k d m g. great k d (omega arith) g);
+      right = λ j k d jb bk kh. absurd (omega arith);
     }
 
     -- the elements level with the pivot are gathered above it
-    module _ {zs : List E} {border : ℕ} (pivot : E) (is : pivot ≡ get_or ys middle pivot) (inside : middle < length ys)
-        (p : Parted (λ e. not (before axis pivot e)) ys (middle + 1) high border zs) where
+    module _ {rest : List E} {level : ℕ} {answers : E → Bool → Type 0} (pivot : E) (is : pivot ≡ get_or ys middle pivot)
+        (tells : (e : E) (front : Bool) → answers e front → front ≡ not (before axis pivot e))
+        (kept : IsPermutation (mid_of (middle + 1) (length ys - (middle + 1)) ys) rest)
+        (parted : Parted answers (length (mid_of (middle + 1) (length ys - (middle + 1)) ys)) level rest) where
+      abbrev n : ℕ
+      n = length ys - (middle + 1)
+
+      abbrev zs : List E
+      zs = put_mid (middle + 1) n ys rest
+
+      within : middle + 1 + n ≤ length ys
+      within = omega (arith, h.inside)
+
+      long_rest : length rest ≡ n
+      long_rest = length_permutation _ rest kept ∙ length-mid (middle + 1) n ys within
+
+      long : length zs ≡ length ys
+      long = length_put (middle + 1) n ys within rest long_rest
+
+      stays : (k : ℕ) (d : E) → k ≤ middle → get_or zs k d ≡ get_or ys k d
+      stays k d m = get_or-put_below (middle + 1) n ys within rest long_rest k d (omega arith)
+
+      moved : (k : ℕ) (d : E) → middle < k → k < length ys → get_or zs k d ≡ get_or rest (k - (middle + 1)) d
+      moved k d m g = get_or-put_inside (middle + 1) n ys within rest long_rest k d (omega arith) (omega arith)
+
       pivot_stays : (d : E) → get_or zs middle d ≡ pivot
-      pivot_stays d = p.stirred.below middle d (omega arith) ∙ sym (get_or_read ys middle pivot inside is d)
+      pivot_stays d = stays middle d (omega arith) ∙ sym (get_or_read ys middle pivot h.inside is d)
 
-      low_stays : (k : ℕ) (d : E) → low ≤ k → k ≤ middle → before axis (get_or zs middle d) (get_or zs k d) ≡ false
-      low_stays k d l m = (λ i. before axis (p.stirred.below middle d (omega arith) i) (p.stirred.below k d (omega arith) i)) ∙ small k d l m
+      to_border : (k : ℕ) (d : E) → k < middle + 1 + level → before axis (get_or zs middle d) (get_or zs k d) ≡ false
+      to_border k d b = ⊎_elim gathered (λ m. (λ i. before axis (stays middle d (omega arith) i) (stays k d m i)) ∙ small k d m) (cases_lt middle k)
+        where
+          gathered : middle < k → before axis (get_or zs middle d) (get_or zs k d) ≡ false
+          gathered m =
+              let answer = tells _ true (parted.passed (k - (middle + 1)) d (omega arith) (omega arith)) in
+              (λ i. before axis (pivot_stays d i) (moved k d m (omega (arith, parted.to, length_permutation _ rest kept, long_rest)) i))
+              ∙ not-true (before axis pivot (get_or rest (k - (middle + 1)) d)) (sym answer)
 
-      level : (k : ℕ) (d : E) → low ≤ k → k < border → before axis (get_or zs middle d) (get_or zs k d) ≡ false
-      level k d l b =
-          ⊎_elim
-          (λ m. ap (λ e. before axis e (get_or zs k d)) (pivot_stays d) ∙ not-true (before axis pivot (get_or zs k d)) (p.passed k d (omega arith) b))
-          (λ m. low_stays k d l m)
-          (cases_lt middle k)
+      -- none that was behind the pivot's place is before it, in whatever order they stand now
+      rest_behind : All (λ e. before axis e pivot ≡ false) rest
+      rest_behind = All-permutation (λ e. before axis e pivot ≡ false) _ rest kept (λ k d g.
+          let inside : k < n = omega (arith, length-mid (middle + 1) n ys within) in
+          (λ i. before axis (get_or-mid (middle + 1) n ys within k d inside i) (get_or_read ys middle pivot h.inside is d i))
+          ∙ great (middle + 1 + k) d (omega arith) (omega (arith, within)))
 
-      behind : (k : ℕ) (d : E) → middle < k → k < high → before axis (get_or zs k d) (get_or zs middle d) ≡ false
+      behind : (k : ℕ) (d : E) → middle < k → k < length zs → before axis (get_or zs k d) (get_or zs middle d) ≡ false
       behind k d m g =
-          let j = p.stirred.within k d (omega arith) g in
-          (λ i. before axis (j.3 i) (p.stirred.below middle d (omega arith) i)) ∙ great j.0 d (omega (arith, j.1)) j.2
+          (λ i. before axis (moved k d m (omega (arith, long)) i) (pivot_stays d i))
+          ∙ rest_behind (k - (middle + 1)) d (omega (arith, long, long_rest))
 
-      stirred_both : Stirred xs low high zs
-      stirred_both = stirred_then h.stirred (stirred_wider low high (omega (arith, h.from)) (omega arith) p.stirred)
-
-      pub narrowed_level : middle < at → at < border → Narrowed (before axis) xs low high at zs at (at + 1)
+      pub narrowed_level : middle < at → at < middle + 1 + level → Narrowed (before axis) at at (at + 1) zs
       narrowed_level from to = record {
-        stirred = stirred_both;
-        from = omega (arith, h.from);
-        to = omega (arith, p.to);
         first_at = omega arith;
         at_last = omega arith;
-        left = divided_by low high at middle zs (λ k d l m. level k d l (omega arith)) (λ k d m g. behind k d (omega arith) g);
-        right = divided_by low high (at + 1) middle zs (λ k d l m. level k d l (omega arith)) (λ k d m g. behind k d (omega arith) g);
+        inside = omega (arith, parted.to, length_permutation _ rest kept, long_rest, long);
+        left = divided_by at middle zs (λ k d m. to_border k d (omega arith)) (λ k d m g. behind k d (omega arith) g);
+        right = divided_by (at + 1) middle zs (λ k d m. to_border k d (omega arith)) (λ k d m g. behind k d (omega arith) g);
       }
 
-      pub narrowed_behind : border ≤ at → at < high → Narrowed (before axis) xs low high at zs border high
+      pub narrowed_behind : middle + 1 + level ≤ at → at < length ys → Narrowed (before axis) at (middle + 1 + level) (length zs) zs
       narrowed_behind from to = record {
-        stirred = stirred_both;
-        from = omega (arith, h.from, p.from);
-        to = omega arith;
         first_at = from;
-        at_last = to;
-        left = divided_by low high border middle zs (λ k d l m. level k d l m) (λ k d m g. behind k d (omega (arith, p.from)) g);
-        right = λ j k d lj jb bk kh. absurd (omega arith);
+        at_last = omega (arith, long);
+        inside = omega arith;
+        left = divided_by (middle + 1 + level) middle zs to_border (λ k d m g. behind k d (omega arith) g);
+        right = λ j k d jb bk kh. absurd (omega arith);
       }

@@ -1,110 +1,130 @@
 -- Partition: it grows by one place a turn, and its pivot comes to stand between the two sides. Assumes nothing.
-use Rattle.std.proofs.Common.{◌≡◌, ℕ, ◌+◌, ◌-◌, ◌<◌, ◌≤◌, Bool, true, false, List, length, get_or, sym, ap, ◌∙◌, subst, ⊎_elim, arith}
+use Rattle.std.proofs.Common.{◌≡◌, ℕ, ◌+◌, ◌-◌, ◌<◌, ◌≤◌, Bool, true, false, List, length, get_or, sym, refl, ap, ◌∙◌, subst, ⊎_elim, arith}
 use mir.Val.{bool_byte}
-use Rattle.std.specs.List.{swap}
+use borrow.Rule.Slice.PartMut.{mid_of, put_mid}
+use Rattle.std.specs.List.{swap, AllWithin}
+use Rattle.std.specs.List.Sorted.{IsPermutation}
 use Rattle.std.proofs.lemmas.List.Edits.{Swapped, swapped_from_swap, length-swap}
+use Rattle.std.proofs.lemmas.List.Sorted.{length_permutation}
 use Rattle.std.proofs.lemmas.List.{get_or_read}
-use Rattle.std.proofs.lemmas.Bool.{cases_lt, cases_eq, cases_Bool}
-use Rattle.select.specs.Windows.{Parted, Halved}
-use Rattle.select.proofs.Stirring.{stirred_none, stirred_then, stirred_wider, stirred_exchange}
+use Rattle.std.proofs.lemmas.Bool.{cases_lt, cases_eq}
+use Rattle.select.specs.Divisions.{Parted, Halved}
+use Rattle.select.proofs.Places.{length-mid, length_put, get_or-put_below, get_or-put_inside}
 
-module _ {E : Type 0} (test : E → Bool) where
-  pub parted_none : (xs : List E) (low : ℕ) → Parted test xs low low low xs
-  parted_none xs low = record {
-    stirred = stirred_none xs low low;
-    from = omega arith;
-    to = omega arith;
-    passed = λ k d l h. absurd (omega arith);
-    failed = λ k d l h. absurd (omega arith);
-  }
+-- the border moves up where an element passes
+step_most : (front : Bool) (step : ℕ) → step ≡ bool_byte front → step ≤ 1
+step_most true step moved = omega (arith, moved)
+step_most false step moved = omega (arith, moved)
 
-  -- a step of the border is what the test of an element says
-  step-most : (step : ℕ) (element : E) → step ≡ bool_byte (test element) → step ≤ 1
-  step-most step element moved = ⊎_elim (λ t. omega (arith, moved ∙ ap bool_byte t)) (λ t. omega (arith, moved ∙ ap bool_byte t)) (cases_Bool (test element))
+step_passed : (front : Bool) (step : ℕ) → step ≡ bool_byte front → 0 < step → front ≡ true
+step_passed true step moved up = refl
+step_passed false step moved up = absurd (omega (arith, moved))
 
-  step_passed : (step : ℕ) (element : E) → step ≡ bool_byte (test element) → 0 < step → test element ≡ true
-  step_passed step element moved up = ⊎_elim (λ t. t) (λ t. absurd (omega (arith, moved ∙ ap bool_byte t))) (cases_Bool (test element))
+step_failed : (front : Bool) (step : ℕ) → step ≡ bool_byte front → step ≤ 0 → front ≡ false
+step_failed true step moved up = absurd (omega (arith, moved))
+step_failed false step moved up = refl
 
-  step_failed : (step : ℕ) (element : E) → step ≡ bool_byte (test element) → step ≤ 0 → test element ≡ false
-  step_failed step element moved up = ⊎_elim (λ t. absurd (omega (arith, moved ∙ ap bool_byte t))) (λ t. t) (cases_Bool (test element))
+-- the element at the next place trades places with the one at the border, which moves up where the element passes
+pub parted_more :
+    {E : Type 0} {answers : E → Bool → Type 0} {ys zs : List E} {next border : ℕ} (step : ℕ) (element : E) (front : Bool)
+    → Parted answers next border ys → next < length ys → zs ≡ swap ys next border → element ≡ get_or ys next element
+    → answers element front → step ≡ bool_byte front → Parted answers (next + 1) (border + step) zs
+parted_more {E} {answers} {ys} {zs} {next} {border} step element front p inside e is answered moved = record {
+  to = omega (arith, p.to, most);
+  passed = passed;
+  failed = failed;
+}
+  where
+    most : step ≤ 1
+    most = step_most front step moved
 
-  -- the element at the next place trades places with the one at the border, which moves up where the element passes
-  pub parted_more : {xs ys zs : List E} {low next border : ℕ} (step : ℕ) (element : E) → Parted test xs low next border ys → next < length ys → zs ≡ swap ys next border → element ≡ get_or ys next element → step ≡ bool_byte (test element) → Parted test xs low (next + 1) (border + step) zs
-  parted_more {xs} {ys} {zs} {low} {next} {border} step element p inside e is moved = record {
-    stirred = stirred_then (stirred_wider low (next + 1) (omega arith) (omega arith) p.stirred) (stirred_exchange ys zs low (next + 1) next border (omega arith) (omega (arith, p.from, p.to)) (omega arith) p.from (omega (arith, p.to)) e);
-    from = omega (arith, p.from);
-    to = omega (arith, p.to, step-most step element moved);
-    passed = passed;
-    failed = failed;
-  }
-    where
-      most : step ≤ 1
-      most = step-most step element moved
+    swapped : (d : E) → Swapped (λ i. get_or ys i d) (λ i. get_or zs i d) next border
+    swapped d = swapped_from_swap ys zs next border d inside (omega (arith, p.to)) e
 
-      swapped : (d : E) → Swapped (λ i. get_or ys i d) (λ i. get_or zs i d) next border
-      swapped d = swapped_from_swap ys zs next border d inside (omega (arith, p.to)) e
+    at_border : (k : ℕ) (d : E) → k ≡ border → element ≡ get_or zs k d
+    at_border k d q = get_or_read ys next element inside is d ∙ sym (swapped d).1 ∙ ap (λ i. get_or zs i d) (sym q)
 
-      at_border : (k : ℕ) (d : E) → k ≡ border → test (get_or zs k d) ≡ test element
-      at_border k d q = ap (λ i. test (get_or zs i d)) q ∙ ap test ((swapped d).1 ∙ sym (get_or_read ys next element inside is d))
+    passed : AllWithin (λ x. answers x true) zs 0 (border + step)
+    passed k d l h =
+        ⊎_elim
+        (λ c. subst (λ x. answers x true) (sym ((swapped d).2 k (λ q. omega (arith, p.to)) (λ q. omega arith))) (p.passed k d l c))
+        (λ c. subst (λ x. answers x true) (at_border k d (omega (arith, most))) (subst (answers element) (step_passed front step moved (omega arith)) answered))
+        (cases_lt k border)
 
-      passed : (k : ℕ) (d : E) → low ≤ k → k < border + step → test (get_or zs k d) ≡ true
-      passed k d l h =
-          ⊎_elim
-          (λ c. ap test ((swapped d).2 k (λ q. omega (arith, p.to)) (λ q. omega arith)) ∙ p.passed k d l c)
-          (λ c. at_border k d (omega (arith, most)) ∙ step_passed step element moved (omega arith))
-          (cases_lt k border)
-
-      failed : (k : ℕ) (d : E) → border + step ≤ k → k < next + 1 → test (get_or zs k d) ≡ false
-      failed k d l h =
-          ⊎_elim
-          (λ q. at_border k d q ∙ step_failed step element moved (omega arith))
-          (λ n. ⊎_elim
-          (λ q. ap (λ i. test (get_or zs i d)) q ∙ ap test (swapped d).0 ∙ p.failed border d (omega arith) (omega (arith, n, q)))
-          (λ m. ap test ((swapped d).2 k m n) ∙ p.failed k d (omega arith) (omega (arith, m)))
-          (cases_eq k next))
-          (cases_eq k border)
-
-  -- the window that a partition has gone through is the whole one
-  pub parted_all : {xs ys : List E} {low next high border : ℕ} → next ≡ high → Parted test xs low next border ys → Parted test xs low high border ys
-  parted_all {xs} {ys} {low} {next} {high} {border} e = subst (λ (n : ℕ). Parted test xs low n border ys) e
+    failed : AllWithin (λ x. answers x false) zs (border + step) (next + 1)
+    failed k d l h =
+        ⊎_elim
+        (λ q. subst (λ x. answers x false) (at_border k d q) (subst (answers element) (step_failed front step moved (omega arith)) answered))
+        (λ n. ⊎_elim
+        (λ q. subst (λ x. answers x false) (sym (swapped d).0 ∙ ap (λ i. get_or zs i d) (sym q)) (p.failed border d (omega arith) (omega (arith, n, q))))
+        (λ m. subst (λ x. answers x false) (sym ((swapped d).2 k m n)) (p.failed k d (omega arith) (omega (arith, m))))
+        (cases_eq k next))
+        (cases_eq k border)
 
 -- the pivot goes to the front, the elements before it are gathered behind it, and the last of these trades places with it
-module _ {E : Type 0} (before : E → E → Bool) (pivot : E) (xs fronted gathered ys : List E) (low high place border : ℕ)
-    (within : high ≤ length xs) (from : low ≤ place) (to : place < high) (is : pivot ≡ get_or xs place pivot)
-    (to_front : fronted ≡ swap xs low place) (parted : Parted (λ e. before e pivot) fronted (low + 1) high border gathered)
-    (to-middle : ys ≡ swap gathered low (border - 1)) where
+module _ {E : Type 0} (before : E → E → Bool) (answers : E → Bool → Type 0) (pivot : E) (xs fronted rest ys : List E) (place middle : ℕ)
+    (tells : (e : E) (front : Bool) → answers e front → front ≡ before e pivot) (inside : place < length xs) (is : pivot ≡ get_or xs place pivot)
+    (to_front : fronted ≡ swap xs 0 place) (kept : IsPermutation (mid_of 1 (length fronted - 1) fronted) rest)
+    (parted : Parted answers (length (mid_of 1 (length fronted - 1) fronted)) middle rest)
+    (to_middle : ys ≡ swap (put_mid 1 (length fronted - 1) fronted rest) 0 middle) where
+  abbrev gathered : List E
+  gathered = put_mid 1 (length fronted - 1) fronted rest
+
   long_fronted : length fronted ≡ length xs
-  long_fronted = ap length to_front ∙ length-swap xs low place
+  long_fronted = ap length to_front ∙ length-swap xs 0 place
 
-  long_parted : length gathered ≡ length xs
-  long_parted = parted.stirred.long ∙ long_fronted
+  within : 1 + (length fronted - 1) ≤ length fronted
+  within = omega (arith, long_fronted)
 
-  first : (d : E) → Swapped (λ i. get_or xs i d) (λ i. get_or fronted i d) low place
-  first d = swapped_from_swap xs fronted low place d (omega arith) (omega arith) to_front
+  long_rest : length rest ≡ length fronted - 1
+  long_rest = length_permutation _ rest kept ∙ length-mid 1 (length fronted - 1) fronted within
 
-  second : (d : E) → Swapped (λ i. get_or gathered i d) (λ i. get_or ys i d) low (border - 1)
-  second d = swapped_from_swap gathered ys low (border - 1) d (omega (arith, long_parted)) (omega (arith, long_parted, parted.from, parted.to)) to-middle
+  middle_inside : middle < length fronted
+  middle_inside = omega (arith, parted.to, length_permutation _ rest kept, long_rest, long_fronted)
 
-  pivot_there : (d : E) → get_or ys (border - 1) d ≡ pivot
-  pivot_there d = (second d).1 ∙ parted.stirred.below low d (omega arith) ∙ (first d).0 ∙ sym (get_or_read xs place pivot (omega arith) is d)
+  long_gathered : length gathered ≡ length fronted
+  long_gathered = length_put 1 (length fronted - 1) fronted within rest long_rest
 
-  smaller : (k : ℕ) (d : E) → low ≤ k → k < border - 1 → before (get_or ys k d) pivot ≡ true
-  smaller k d l h =
+  first : (d : E) → Swapped (λ i. get_or xs i d) (λ i. get_or fronted i d) 0 place
+  first d = swapped_from_swap xs fronted 0 place d (omega arith) inside to_front
+
+  second : (d : E) → Swapped (λ i. get_or gathered i d) (λ i. get_or ys i d) 0 middle
+  second d = swapped_from_swap gathered ys 0 middle d (omega (arith, middle_inside, long_gathered)) (omega (arith, middle_inside, long_gathered)) to_middle
+
+  pivot_there : (d : E) → get_or ys middle d ≡ pivot
+  pivot_there d =
+      (second d).1
+      ∙ get_or-put_below 1 (length fronted - 1) fronted within rest long_rest 0 d (omega arith)
+      ∙ (first d).0
+      ∙ sym (get_or_read xs place pivot inside is d)
+
+  -- what the partition answered of the element at a place behind the first
+  answered : (k : ℕ) (d : E) (front : Bool) → 0 < k → k < length fronted → answers (get_or rest (k - 1) d) front → before (get_or gathered k d) pivot ≡ front
+  answered k d front l h answer =
+      ap (λ e. before e pivot) (get_or-put_inside 1 (length fronted - 1) fronted within rest long_rest k d (omega arith) (omega arith))
+      ∙ sym (tells _ front answer)
+
+  front_smaller : (k : ℕ) (d : E) → 0 < k → k ≤ middle → before (get_or gathered k d) pivot ≡ true
+  front_smaller k d l h = answered k d true l (omega (arith, middle_inside)) (parted.passed (k - 1) d (omega arith) (omega arith))
+
+  smaller : (k : ℕ) (d : E) → k < middle → before (get_or ys k d) pivot ≡ true
+  smaller k d h =
       ⊎_elim
-      (λ q. ap (λ i. before (get_or ys i d) pivot) q ∙ ap (λ e. before e pivot) (second d).0 ∙ parted.passed (border - 1) d (omega arith) (omega arith))
-      (λ n. ap (λ e. before e pivot) ((second d).2 k n (λ q. omega arith)) ∙ parted.passed k d (omega (arith, n)) (omega arith))
-      (cases_eq k low)
+      (λ q. ap (λ i. before (get_or ys i d) pivot) q ∙ ap (λ e. before e pivot) (second d).0 ∙ front_smaller middle d (omega arith) (omega arith))
+      (λ n. ap (λ e. before e pivot) ((second d).2 k n (λ q. omega arith)) ∙ front_smaller k d (omega (arith, n)) (omega arith))
+      (cases_eq k 0)
 
-  others : (k : ℕ) (d : E) → border - 1 < k → k < high → before (get_or ys k d) pivot ≡ false
+  others : (k : ℕ) (d : E) → middle < k → k < length fronted → before (get_or ys k d) pivot ≡ false
   others k d l h =
-      ap (λ e. before e pivot) ((second d).2 k (λ q. omega (arith, parted.from)) (λ q. omega arith))
-      ∙ parted.failed k d (omega arith) h
+      ap (λ e. before e pivot) ((second d).2 k (λ q. omega arith) (λ q. omega arith))
+      ∙ answered k d false (omega arith) h (parted.failed (k - 1) d (omega arith) (omega (arith, length_permutation _ rest kept, long_rest)))
 
-  pub halved : Halved before xs low high (border - 1) ys
+  pub halved : Halved before middle ys
   halved = record {
-    stirred = stirred_then (stirred_exchange xs fronted low high low place within (omega arith) (omega arith) from to to_front) (stirred_then (stirred_wider low high (omega arith) (omega arith) parted.stirred) (stirred_exchange gathered ys low high low (border - 1) (omega (arith, long_parted)) (omega arith) (omega arith) (omega (arith, parted.from)) (omega (arith, parted.from, parted.to)) to-middle));
-    from = omega (arith, parted.from);
-    to = omega (arith, parted.from, parted.to);
-    smaller = λ k d l h. ap (before (get_or ys k d)) (pivot_there d) ∙ smaller k d l h;
-    others = λ k d l h. ap (before (get_or ys k d)) (pivot_there d) ∙ others k d l h;
+    inside = omega (arith, middle_inside, long);
+    smaller = λ k d h. ap (before (get_or ys k d)) (pivot_there d) ∙ smaller k d h;
+    others = λ k d l h. ap (before (get_or ys k d)) (pivot_there d) ∙ others k d l (omega (arith, long));
   }
+    where
+      long : length ys ≡ length fronted
+      long = ap length to_middle ∙ length-swap gathered 0 middle ∙ long_gathered

@@ -1,66 +1,66 @@
--- One narrowing after another, down to a single place. Assumes nothing.
-use Rattle.std.proofs.Common.{◌≡◌, ℕ, ◌+◌, ◌-◌, ◌<◌, ◌≤◌, Bool, false, ◌⊎◌, List, get_or, ◌∙◌, subst, inl, inr, ⊎_elim, arith}
+-- Where the places that are left are settled, so is the whole slice. Assumes nothing.
+use Rattle.std.proofs.Common.{◌≡◌, ℕ, ◌+◌, ◌-◌, ◌<◌, ◌≤◌, Bool, false, List, length, get_or, sym, ◌∙◌, subst, ⊎_elim, arith}
+use borrow.Rule.Slice.PartMut.{mid_of, put_mid}
+use Rattle.std.specs.List.{All}
+use Rattle.std.specs.List.Sorted.{IsPermutation}
+use Rattle.std.proofs.lemmas.List.Elements.{All-from_get_or}
+use Rattle.std.proofs.lemmas.List.Sorted.{length_permutation, All-permutation}
 use Rattle.std.proofs.lemmas.Bool.{cases_lt}
-use Rattle.select.specs.Windows.{Stirred, Divided, Narrowed}
-use Rattle.select.proofs.Stirring.{stirred_then, stirred_wider}
+use Rattle.select.specs.Divisions.{Narrowed}
+use Rattle.select.specs.Selections.{Settled}
+use Rattle.select.proofs.Places.{length-mid, length_put, get_or-mid, get_or-put_below, get_or-put_inside, get_or-put_above}
 
-module _ {E : Type 0} (before : E → E → Bool) where
-  -- a window that is only stirred stays as wide as it is
-  pub narrowed_none : {xs ys : List E} {low high at : ℕ} → low ≤ at → at < high → Stirred xs low high ys → Narrowed before xs low high at ys low high
-  narrowed_none from to s = record {
-    stirred = s;
-    from = omega arith;
-    to = omega arith;
-    first_at = from;
-    at_last = to;
-    left = λ j k d lj jb bk kh. absurd (omega arith);
-    right = λ j k d lj jb bk kh. absurd (omega arith);
-  }
+module _ {E : Type 0} (before : E → E → Bool) {ys inner : List E} {at first last : ℕ} (n : Narrowed before at first last ys)
+    (kept : IsPermutation (mid_of first (last - first) ys) inner) (settled : Settled before inner (at - first)) where
+  abbrev zs : List E
+  zs = put_mid first (last - first) ys inner
 
-  -- a division outlasts a stir that stays on one side of it
-  divided_kept : {ys zs : List E} {low high first last border : ℕ} → low ≤ first → last ≤ high → (border ≤ first) ⊎ (last ≤ border) → Stirred ys first last zs → Divided before low high border ys → Divided before low high border zs
-  divided_kept {ys} {zs} {low} {high} {first} {last} {border} from to aside s divided j k d lj jb bk kh = ⊎_elim above below aside
+  within : first + (last - first) ≤ length ys
+  within = omega (arith, n.inside, n.first_at, n.at_last)
+
+  long_mid : length (mid_of first (last - first) ys) ≡ last - first
+  long_mid = length-mid first (last - first) ys within
+
+  long_inner : length inner ≡ last - first
+  long_inner = length_permutation _ inner kept ∙ long_mid
+
+  below : (k : ℕ) (d : E) → k < first → get_or zs k d ≡ get_or ys k d
+  below = get_or-put_below first (last - first) ys within inner long_inner
+
+  inside : (k : ℕ) (d : E) → first ≤ k → k < last → get_or zs k d ≡ get_or inner (k - first) d
+  inside k d l h = get_or-put_inside first (last - first) ys within inner long_inner k d l (omega arith)
+
+  above : (k : ℕ) (d : E) → last ≤ k → get_or zs k d ≡ get_or ys k d
+  above k d h = get_or-put_above first (last - first) ys within inner long_inner k d (omega (arith, n.first_at, n.at_last))
+
+  here : (d : E) → get_or zs at d ≡ get_or inner (at - first) d
+  here d = inside at d n.first_at n.at_last
+
+  -- what holds of each element that is left holds of the one that comes to stand at place `at`
+  all_inner : (P : E → Type 0) (d : E) → ((k : ℕ) → first ≤ k → k < last → P (get_or ys k d)) → P (get_or inner (at - first) d)
+  all_inner P d each = All-permutation P _ inner kept mid (at - first) d (omega (arith, long_inner, n.first_at, n.at_last))
     where
-      above : border ≤ first → before (get_or zs k d) (get_or zs j d) ≡ false
-      above h =
-          let wide = stirred_wider border high h to s in
-          let m = wide.within k d bk kh in
-          (λ i. before (m.3 i) (wide.below j d jb i)) ∙ divided j m.0 d lj jb m.1 m.2
+      mid : All P (mid_of first (last - first) ys)
+      mid = All-from_get_or P _ d (λ k g.
+          let h : k < last - first = omega (arith, long_mid) in
+          subst P (sym (get_or-mid first (last - first) ys within k d h)) (each (first + k) (omega arith) (omega arith)))
 
-      below : last ≤ border → before (get_or zs k d) (get_or zs j d) ≡ false
-      below h =
-          let wide = stirred_wider low border from h s in
-          let m = wide.within j d lj jb in
-          (λ i. before (wide.above k d bk i) (m.3 i)) ∙ divided m.0 k d m.1 m.2 bk kh
-
-  -- a narrowing within a narrowed window
-  pub narrowed_then : {xs ys zs : List E} {low high at first last inner_first inner_last : ℕ} → Narrowed before xs low high at ys first last → Narrowed before ys first last at zs inner_first inner_last → Narrowed before xs low high at zs inner_first inner_last
-  narrowed_then {xs} {ys} {zs} {low} {high} {at} {first} {last} {inner_first} {inner_last} n m = record {
-    stirred = stirred_then n.stirred (stirred_wider low high n.from n.to m.stirred);
-    from = omega (arith, n.from, m.from);
-    to = omega (arith, n.to, m.to);
-    first_at = m.first_at;
-    at_last = m.at_last;
-    left = both inner_first m.from (omega (arith, m.to, m.first_at, m.at_last)) m.left;
-    right = both inner_last (omega (arith, m.from, m.first_at, m.at_last)) m.to m.right;
-  }
+  pub settled_whole : Settled before zs at
+  settled_whole = record { left = left; right = right }
     where
-      at_first : Divided before low high first zs
-      at_first = divided_kept n.from n.to (inl (omega arith)) m.stirred n.left
-
-      at_last : Divided before low high last zs
-      at_last = divided_kept n.from n.to (inr (omega arith)) m.stirred n.right
-
-      both : (border : ℕ) → first ≤ border → border ≤ last → Divided before first last border zs → Divided before low high border zs
-      both border fb bl inner j k d lj jb bk kh =
+      left : (k : ℕ) (d : E) → k < at → before (get_or zs at d) (get_or zs k d) ≡ false
+      left k d h =
           ⊎_elim
-          (λ h. at_first j k d lj h (omega arith) kh)
-          (λ l. ⊎_elim (λ h. inner j k d l jb bk h) (λ h. at_last j k d lj (omega arith) h kh) (cases_lt k last))
-          (cases_lt j first)
+          (λ c. (λ i. before (here d i) (below k d c i)) ∙ all_inner (λ e. before e (get_or ys k d) ≡ false) d (λ j l g. n.left k j d c l (omega (arith, n.inside))))
+          (λ c. (λ i. before (here d i) (inside k d c (omega (arith, n.at_last)) i)) ∙ settled.left (k - first) d (omega arith))
+          (cases_lt k first)
 
-  -- a window of one place is that place
-  pub narrowed_last : {xs ys : List E} {low high at first last : ℕ} → last - first ≤ 1 → Narrowed before xs low high at ys first last → Narrowed before xs low high at ys at (at + 1)
-  narrowed_last {xs} {ys} {low} {high} {at} {first} {last} one n =
-      let alone : first ≡ at = omega (arith, n.first_at, n.at_last) in
-      let next : last ≡ at + 1 = omega (arith, n.first_at, n.at_last) in
-      subst (λ (l : ℕ). Narrowed before xs low high at ys at l) next (subst (λ (f : ℕ). Narrowed before xs low high at ys f last) alone n)
+      right : (k : ℕ) (d : E) → at < k → k < length zs → before (get_or zs k d) (get_or zs at d) ≡ false
+      right k d h g =
+          ⊎_elim
+          (λ c. (λ i. before (inside k d (omega (arith, n.first_at)) c i) (here d i)) ∙ settled.right (k - first) d (omega (arith, n.first_at)) (omega (arith, long_inner, n.first_at)))
+          (λ c. (λ i. before (above k d c i) (here d i)) ∙ all_inner (λ e. before (get_or ys k d) e ≡ false) d (λ j l m. n.right j k d m c (omega (arith, long))))
+          (cases_lt k last)
+        where
+          long : length zs ≡ length ys
+          long = length_put first (last - first) ys within inner long_inner

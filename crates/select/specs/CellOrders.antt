@@ -1,5 +1,5 @@
 -- The two orders of cells: by column and then by row, and by row and then by column.
-use Rattle.std.specs.Prelude.{◌≡◌, ℕ, ◌+◌, ◌*◌, ◌^◌, ◌<◌, Bool, ◌&&◌, ◌||◌, ◌==◌, nat_lt}
+use Rattle.std.specs.Prelude.{ℕ, Bool, ◌&&◌, ◌||◌, ◌==◌, nat_lt}
 use Rattle.grid.specs.declared.cell.Cell.{Cell}
 use Rattle.select.specs.declared.element.Axis.{Axis}
 use Rattle.select.specs.declared.element.Axis.TheVariants.{X, Y}
@@ -17,8 +17,3 @@ second Y c = c.x
 -- a cell comes before another by its first coordinate, and at equal ones by its second
 abbrev pub before : Axis → Cell → Cell → Bool
 before axis c d = nat_lt (first axis c) (first axis d) || (first axis c == first axis d && nat_lt (second axis c) (second axis d))
-
--- a number with these two halves of 32 bits
-pub record Key (key upper lower : ℕ) : Type 0 where
-  pub value : key ≡ upper * 2 ^ 32 + lower
-  pub low : lower < 2 ^ 32

@@ -1,5 +1,5 @@
 pub mod Orders
 pub mod CellOrders
 pub mod Selections
-pub mod Windows
+pub mod Divisions
 pub mod Keys

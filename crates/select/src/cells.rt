@@ -1,5 +1,6 @@
 //! Cells as elements: one number for each axis compares them.
-ghost use Rattle.select.specs.CellOrders.{Key, before, first, second};
+ghost use Rattle.std.specs.Prelude.{◌≡◌, ◌+◌, ◌*◌, ◌^◌};
+ghost use Rattle.select.specs.CellOrders.{before, first, second};
 ghost use Rattle.select.specs.Keys.{cells_total};
 
 use crate::{Axis, Element};
@@ -15,19 +16,15 @@ impl Element for Cell {
     }
 }
 
-/// Both coordinates of a cell in one number, on top the one that the axis compares first: cells compare as their numbers do.
+/// A cell as one number, on top the coordinate that the axis compares first: cells compare as their numbers do.
 fn key(cell: Cell, axis: Axis) -> u64
-    ensures { Key result (first axis cell) (second axis cell) }
+    ensures { result ≡ first axis cell * 2 ^ 32 + second axis cell }
 {
     match axis {
-        Axis::X => joined(cell.x, cell.y),
-        Axis::Y => joined(cell.y, cell.x),
+        Axis::X => u64::from(cell),
+        Axis::Y => u64::from(Cell {
+            x: cell.y,
+            y: cell.x,
+        }),
     }
-}
-
-/// The number whose upper half and lower half these are.
-fn joined(upper: u32, lower: u32) -> u64
-    ensures { Key result upper lower }
-{
-    u64::from(upper) << 32 | u64::from(lower)
 }

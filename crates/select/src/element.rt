@@ -1,13 +1,25 @@
 //! What can be selected.
 ghost use Rattle.std.specs.Prelude.{◌≡◌, Bool};
-ghost use Rattle.select.specs.Orders.{TotalOrders};
+ghost use Rattle.select.specs.Orders.{TotalOrders, other};
 ghost use Rattle.select.specs.declared.element.Axis.{Axis};
 
 /// The coordinate that is compared first.
-#[derive(Clone, Copy)]
+#[derive(Clone, Copy, Debug, PartialEq, Eq)]
 pub enum Axis {
     X,
     Y,
+}
+
+impl Axis {
+    /// The axis that compares the other coordinate first.
+    pub fn other(self) -> Axis
+        ensures { result ≡ other self }
+    {
+        match self {
+            Axis::X => Axis::Y,
+            Axis::Y => Axis::X,
+        }
+    }
 }
 
 /// An element with two total orders, one for each axis.

@@ -7,7 +7,6 @@ mod partition;
 mod pivot;
 mod sample;
 mod selection;
-mod window;
 
 pub use element::{Axis, Element};
 pub use selection::select;

@@ -1,7 +1,6 @@
-//! Pivots for windows of few elements. Any place of the window serves: a good one leaves less to do.
-ghost use Rattle.std.specs.Prelude.{◌+◌, ◌-◌, ◌<◌, ◌≤◌, length};
+//! Pivots for slices of few elements. Any place serves: a good one leaves less to do.
+ghost use Rattle.std.specs.Prelude.{◌≡◌, ◌<◌, length, count_by};
 
-use crate::window::Window;
 use crate::{Axis, Element};
 
 /// Up to so many elements are counted through, so that the first pivot is already the wanted element.
@@ -10,78 +9,69 @@ pub const COUNTED: usize = 12;
 /// From so many elements on, the middle of nine makes up for its cost.
 const MIDDLE_OF_NINE: usize = 48;
 
-/// The place of a pivot, by few of the elements of the window.
-pub fn near_pivot<E: Element>(axis: Axis, part: &[E], window: Window, at: usize) -> usize
-    requires { (window.low ≤ at) × ((at < window.high) × (window.high ≤ length part.now)) }
-    ensures { (window.low ≤ result) × (result < window.high) }
+/// The place of a pivot, by few of the elements.
+pub fn near_pivot<E: Element>(axis: Axis, part: &[E], at: usize) -> usize
+    requires { at < length part.now }
+    ensures { result < length part.now }
 {
-    let count = window.high - window.low;
+    let count = part.len();
     if count <= COUNTED {
-        return place_of_rank(axis, part, window, at);
+        return place_of_rank(axis, part, at);
     }
     if count < MIDDLE_OF_NINE {
-        return middle_of_three(
-            axis,
-            part,
-            window.low,
-            window.low + count / 2,
-            window.high - 1,
-        );
+        return middle_of_three(axis, part, 0, count / 2, count - 1);
     }
-    middle_of_nine(axis, part, window)
+    middle_of_nine(axis, part)
 }
 
-/// The place of an element that has as many elements of the window before it as there are places below `at`.
+/// The place of an element that has so many elements before it.
 /// Where many are level none may have: then that of one with the next smaller number, which is level with the wanted one.
-pub fn place_of_rank<E: Element>(axis: Axis, part: &[E], window: Window, at: usize) -> usize
-    requires { (window.low ≤ at) × ((at < window.high) × (window.high ≤ length part.now)) }
-    ensures { (window.low ≤ result) × (result < window.high) }
+pub fn place_of_rank<E: Element>(axis: Axis, part: &[E], rank: usize) -> usize
+    requires { 0 < length part.now }
+    ensures { result < length part.now }
 {
-    let rank = at - window.low;
     let mut most = 0;
-    let mut place = window.low;
-    for i in window.low..window.high {
-        let before = count_before(axis, part, window, part[i]);
+    let mut nearest = 0;
+    for (place, element) in part.iter().enumerate() {
+        let before = count_before(axis, part, *element);
         if before == rank {
-            return i;
+            return place;
         }
         if before < rank && before >= most {
             most = before;
-            place = i;
+            nearest = place;
         }
     }
-    place
+    nearest
 }
 
-/// How many elements of the window are before this one.
-fn count_before<E: Element>(axis: Axis, part: &[E], window: Window, element: E) -> usize
-    requires { (window.low ≤ window.high) × (window.high ≤ length part.now) }
-    ensures { result ≤ window.high - window.low }
+/// How many elements are before this one. A `filter(..).count()` branches at each test, which takes twice as long.
+fn count_before<E: Element>(axis: Axis, part: &[E], element: E) -> usize
+    ensures { result ≡ count_by (λ e. E.Element.before axis e element) part.now }
 {
     let mut count = 0;
-    for i in window.low..window.high {
-        count += usize::from(part[i].is_before(element, axis));
+    for other in part {
+        count += usize::from(other.is_before(element, axis));
     }
     count
 }
 
 /// The place of the middle one of nine elements at even distances, by three groups of three.
-fn middle_of_nine<E: Element>(axis: Axis, part: &[E], window: Window) -> usize
-    requires { (window.low < window.high) × (window.high ≤ length part.now) }
-    ensures { (window.low ≤ result) × (result < window.high) }
+fn middle_of_nine<E: Element>(axis: Axis, part: &[E]) -> usize
+    requires { 0 < length part.now }
+    ensures { result < length part.now }
 {
-    let low = window.low;
-    let step = (window.high - low) / 9;
-    let first = middle_of_three(axis, part, low, low + step, low + 2 * step);
-    let second = middle_of_three(axis, part, low + 3 * step, low + 4 * step, low + 5 * step);
-    let third = middle_of_three(axis, part, low + 6 * step, low + 7 * step, low + 8 * step);
+    let step = part.len() / 9;
+    let first = middle_of_three(axis, part, 0, step, 2 * step);
+    let second = middle_of_three(axis, part, 3 * step, 4 * step, 5 * step);
+    let third = middle_of_three(axis, part, 6 * step, 7 * step, 8 * step);
     middle_of_three(axis, part, first, second, third)
 }
 
 /// The place of the middle one of three elements.
 fn middle_of_three<E: Element>(axis: Axis, part: &[E], a: usize, b: usize, c: usize) -> usize
-    requires { (a ≤ b) × ((b ≤ c) × (c < length part.now)) }
-    ensures { (a ≤ result) × (result ≤ c) }
+    requires { (a < length part.now) × (b < length part.now) × (c < length part.now) }
+    ensures { result < length part.now }
 {
     let first = part[a];
     let second = part[b];

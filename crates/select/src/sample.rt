@@ -1,39 +1,37 @@
-//! Samples, whose middle is the pivot of a large window.
-ghost use Rattle.std.specs.Prelude.{◌+◌, ◌<◌, ◌≤◌, length};
-ghost use Rattle.select.specs.Windows.{Stirred};
+//! Samples, whose middle is the pivot of a large slice.
+ghost use Rattle.std.specs.Prelude.{◌≡◌, ◌/◌, ◌<◌, ◌≤◌, length};
+ghost use Rattle.std.specs.List.Sorted.{IsPermutation};
 
-use crate::partition::exchange;
 use crate::pivot::place_of_rank;
-use crate::window::Window;
 use crate::{Axis, Element};
 
-/// The elements from the front of a window up to `end`, of which the one that order puts at `place` is to be the pivot.
+/// So many elements at the front of a slice, of which the one that order puts at `place` is to be the pivot.
 #[derive(Clone, Copy)]
 pub struct Sample {
-    pub end: usize,
+    pub count: usize,
     pub place: usize,
+    ghost inside: { place < count },
 }
 
 /// A sample at even distances. Its pivot is likely a little past the wanted element, on the side with more elements, so
 /// that the smaller side is left: a sample of n^(2/3) / 2 elements errs by about the root of that, n^(1/3), in its own places.
-pub fn draw_even<E: Element>(part: &mut [E], window: Window, at: usize) -> Sample
-    requires { (window.low ≤ at) × ((at < window.high) × ((window.high ≤ length part.old) × (window.low + 2 ≤ window.high))) }
-    ensures stirred { Stirred part.old window.low window.high part.new }
-    ensures place { (window.low ≤ result.place) × ((result.place < result.end) × (result.end < window.high)) }
+pub fn draw_even<E: Element>(part: &mut [E], at: usize) -> Sample
+    requires { (at < length part.old) × (2 ≤ length part.old) }
+    ensures kept { IsPermutation part.old part.new }
+    ensures count { result.count < length part.old }
 {
-    let root = cube_root(window.high - window.low);
-    let stride = root.saturating_add(root);
-    let end = gather_even(part, window, stride);
-    let near = window.low.saturating_add((at - window.low) / stride);
-    if at - window.low < window.high - at {
-        return Sample {
-            end,
-            place: near.saturating_add(root).min(end - 1),
-        };
-    }
+    let root = cube_root(part.len());
+    let stride = root.saturating_mul(2);
+    let count = gather_even(part, stride);
+    let near = at / stride;
+    let place = if at < part.len() - at {
+        near.saturating_add(root)
+    } else {
+        near.saturating_sub(root)
+    };
     Sample {
-        end,
-        place: near.saturating_sub(root).max(window.low).min(end - 1),
+        count,
+        place: place.min(count - 1),
     }
 }
 
@@ -45,53 +43,43 @@ fn cube_root(number: usize) -> usize
     (1 << (number.ilog2() / 3)).max(1)
 }
 
-/// Brings every element that is so many places from the last one to the front of the window, and tells where these end.
-fn gather_even<E: Element>(part: &mut [E], window: Window, stride: usize) -> usize
-    requires { (window.low + 2 ≤ window.high) × ((window.high ≤ length part.old) × (2 ≤ stride)) }
-    ensures stirred { Stirred part.old window.low window.high part.new }
-    ensures end { (window.low < result) × (result < window.high) }
+/// Brings every element that is so many places from the last one to the front, and tells how many these are.
+fn gather_even<E: Element>(part: &mut [E], stride: usize) -> usize
+    requires { (2 ≤ length part.old) × (2 ≤ stride) }
+    ensures kept { IsPermutation part.old part.new }
+    ensures count { (0 < result) × (result < length part.old) }
 {
-    let mut end = window.low + 1;
-    let mut from = window.low;
-    while window.high - from > stride {
-        from += stride;
-        exchange(part, end, from);
-        end += 1;
+    let count = part.len().div_ceil(stride);
+    for place in 0..count {
+        part.swap(place, place * stride);
     }
-    end
+    count
 }
 
 /// A sample of the middles of each five elements, whose own middle has about three in ten of all elements or more on either
 /// side, in whatever order these stand.
-pub fn draw_middles<E: Element>(axis: Axis, part: &mut [E], window: Window) -> Sample
-    requires { (window.low + 5 ≤ window.high) × (window.high ≤ length part.old) }
-    ensures stirred { Stirred part.old window.low window.high part.new }
-    ensures place { (window.low ≤ result.place) × ((result.place < result.end) × (result.end < window.high)) }
+pub fn draw_middles<E: Element>(axis: Axis, part: &mut [E]) -> Sample
+    requires { 5 ≤ length part.old }
+    ensures kept { IsPermutation part.old part.new }
+    ensures count { result.count < length part.old }
 {
-    let end = gather_middles(axis, part, window);
+    let count = gather_middles(axis, part);
     Sample {
-        end,
-        place: window.low + (end - window.low) / 2,
+        count,
+        place: count / 2,
     }
 }
 
-/// Brings the middle one of each five elements to the front of the window, and tells where these end.
-fn gather_middles<E: Element>(axis: Axis, part: &mut [E], window: Window) -> usize
-    requires { (window.low + 5 ≤ window.high) × (window.high ≤ length part.old) }
-    ensures stirred { Stirred part.old window.low window.high part.new }
-    ensures end { (window.low < result) × (result < window.high) }
+/// Brings the middle one of each five elements to the front, and tells how many these are.
+fn gather_middles<E: Element>(axis: Axis, part: &mut [E]) -> usize
+    ensures kept { IsPermutation part.old part.new }
+    ensures count { result ≡ length part.old / 5 }
 {
-    let mut end = window.low;
-    let mut from = window.low;
-    while window.high - from >= 5 {
-        let five = Window {
-            low: from,
-            high: from + 5,
-        };
-        let middle = place_of_rank(axis, part, five, from + 2);
-        exchange(part, end, middle);
-        end += 1;
-        from += 5;
+    let count = part.len() / 5;
+    for place in 0..count {
+        let five = 5 * place;
+        let middle = five + place_of_rank(axis, &part[five..five + 5], 2);
+        part.swap(place, middle);
     }
-    end
+    count
 }

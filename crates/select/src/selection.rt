@@ -1,13 +1,14 @@
 //! Selection.
 ghost use Rattle.std.specs.Prelude.{◌≡◌, ◌+◌, ◌-◌, ◌<◌, ◌≤◌, true, length};
-ghost use Rattle.select.specs.Selections.{Selected};
-ghost use Rattle.select.specs.Windows.{Stirred, Narrowed};
+ghost use Rattle.std.specs.List.Sorted.{IsPermutation};
+ghost use Rattle.select.specs.Divisions.{Narrowed};
+ghost use Rattle.select.specs.Selections.{Selected, Settled};
 
-use crate::partition::{gather_level, halve};
+use crate::partition::{gather, halve};
 use crate::pivot::{COUNTED, near_pivot};
 use crate::sample::{Sample, draw_even, draw_middles};
-use crate::window::Window;
 use crate::{Axis, Element};
+use std::ops::Range;
 
 /// Where at most one in so many elements is before the pivot, many may be level with it.
 const FEW: usize = 16;
@@ -22,53 +23,51 @@ const MOST_BAD: usize = 8;
 pub fn select<E: Element>(axis: Axis, part: &mut [E], at: usize)
     ensures { Selected (E.Element.before axis) part.old at part.new }
 {
-    if at >= part.len() {
+    if at < part.len() {
+        settle(axis, part, at, 0);
+    }
+}
+
+/// Brings to place `at` the element that order puts there, after so many bad rounds: a round is bad if it leaves more than
+/// seven eighths of the elements.
+/// On any input the work is in proportion to the elements: all rounds but a few leave at most fifteen sixteenths of them.
+#[cycle(choose_settle)]
+fn settle<E: Element>(axis: Axis, part: &mut [E], at: usize, bad: usize)
+    requires { at < length part.old }
+    ensures kept { IsPermutation part.old part.new }
+    ensures settled { Settled (E.Element.before axis) part.new at }
+{
+    let count = part.len();
+    if count < 2 {
         return;
     }
-    let whole = Window {
-        low: 0,
-        high: part.len(),
-    };
-    settle(axis, part, whole, at);
+    let place = choose(axis, part, at, bad);
+    let left = narrow(axis, part, at, place);
+    let is_bad = left.end - left.start > count / 8 * 7;
+    settle(
+        axis,
+        &mut part[left.start..left.end],
+        at - left.start,
+        bad.saturating_add(usize::from(is_bad)),
+    );
 }
 
-/// Brings to place `at` the element that order puts there among those of the window.
-/// On any input the work is in proportion to the window: all rounds but a few leave at most fifteen sixteenths of it.
+/// The place of a pivot. It may move elements.
 #[cycle(choose_settle)]
-fn settle<E: Element>(axis: Axis, part: &mut [E], whole: Window, at: usize)
-    requires { (whole.low ≤ at) × ((at < whole.high) × (whole.high ≤ length part.old)) }
-    ensures { Narrowed (E.Element.before axis) part.old whole.low whole.high at part.new at (at + 1) }
+fn choose<E: Element>(axis: Axis, part: &mut [E], at: usize, bad: usize) -> usize
+    requires { at < length part.old }
+    ensures kept { IsPermutation part.old part.new }
+    ensures place { result < length part.old }
 {
-    let mut window = whole;
-    let mut bad = 0;
-    while window.high - window.low > 1 {
-        let place = choose(axis, part, window, at, bad);
-        let inner = narrow(axis, part, window, at, place);
-        bad = count_bad(bad, window, inner);
-        window = inner;
+    if !is_sampled(part.len(), bad) {
+        return near_pivot(axis, part, at);
     }
-}
-
-/// The place of a pivot. It may move elements within the window.
-#[cycle(choose_settle)]
-fn choose<E: Element>(axis: Axis, part: &mut [E], window: Window, at: usize, bad: usize) -> usize
-    requires { (window.low ≤ at) × ((at < window.high) × (window.high ≤ length part.old)) }
-    ensures stirred { Stirred part.old window.low window.high part.new }
-    ensures place { (window.low ≤ result) × (result < window.high) }
-{
-    if !is_sampled(window.high - window.low, bad) {
-        return near_pivot(axis, part, window, at);
-    }
-    let sample = draw(axis, part, window, at, bad);
-    let front = Window {
-        low: window.low,
-        high: sample.end,
-    };
-    settle(axis, part, front, sample.place);
+    let sample = draw(axis, part, at, bad);
+    settle(axis, &mut part[..sample.count], sample.place, 0);
     sample.place
 }
 
-/// Whether a sample makes up for its cost: in a large window, and after many bad rounds in all but the smallest.
+/// Whether a sample makes up for its cost: in a large slice, and after many bad rounds in all but the smallest.
 fn is_sampled(count: usize, bad: usize) -> bool
     ensures { result ≡ true → 5 ≤ count }
 {
@@ -80,64 +79,42 @@ fn is_sampled(count: usize, bad: usize) -> bool
 }
 
 /// A sample that is likely good, and after many bad rounds one that surely is.
-fn draw<E: Element>(axis: Axis, part: &mut [E], window: Window, at: usize, bad: usize) -> Sample
-    requires { (window.low ≤ at) × ((at < window.high) × ((window.high ≤ length part.old) × (window.low + 5 ≤ window.high))) }
-    ensures stirred { Stirred part.old window.low window.high part.new }
-    ensures place { (window.low ≤ result.place) × ((result.place < result.end) × (result.end < window.high)) }
+fn draw<E: Element>(axis: Axis, part: &mut [E], at: usize, bad: usize) -> Sample
+    requires { (at < length part.old) × (5 ≤ length part.old) }
+    ensures kept { IsPermutation part.old part.new }
+    ensures count { result.count < length part.old }
 {
     if bad < MOST_BAD {
-        return draw_even(part, window, at);
+        return draw_even(part, at);
     }
-    draw_middles(axis, part, window)
+    draw_middles(axis, part)
 }
 
-/// The bad rounds so far: a round is bad if it leaves more than seven eighths of its window.
-fn count_bad(bad: usize, window: Window, inner: Window) -> usize
-    requires { (window.low ≤ window.high) × (inner.low ≤ inner.high) }
+/// Divides the elements at a pivot, the one at `place`, and tells the places among which `at` is left.
+fn narrow<E: Element>(axis: Axis, part: &mut [E], at: usize, place: usize) -> Range<usize>
+    requires { (at < length part.old) × (place < length part.old) }
+    ensures kept { IsPermutation part.old part.new }
+    ensures narrowed { Narrowed (E.Element.before axis) at result.start result.end part.new }
+    ensures smaller { 1 < length part.old → result.end - result.start < length part.old }
 {
-    if inner.high - inner.low > (window.high - window.low) / 8 * 7 {
-        return bad.saturating_add(1);
-    }
-    bad
-}
-
-/// Divides the window at a pivot, the element at `place`, and tells the part of it in which `at` lies.
-fn narrow<E: Element>(axis: Axis, part: &mut [E], window: Window, at: usize, place: usize) -> Window
-    requires low_le_at { (window.low ≤ at) × ((at < window.high) × (window.high ≤ length part.old)) }
-    requires low_le_place { (window.low ≤ place) × (place < window.high) }
-    ensures narrowed { Narrowed (E.Element.before axis) part.old window.low window.high at part.new result.low result.high }
-    ensures smaller { 1 < window.high - window.low → result.high - result.low < window.high - window.low }
-{
-    let middle = halve(axis, part, window, place);
+    let middle = halve(axis, part, place);
     if at < middle {
-        return Window {
-            low: window.low,
-            high: middle,
-        };
+        return 0..middle;
     }
     if at == middle {
-        return Window {
-            low: at,
-            high: at + 1,
-        };
+        return at..at + 1;
     }
-    let above = Window {
-        low: middle + 1,
-        high: window.high,
-    };
-    if middle - window.low > (window.high - window.low) / FEW {
-        return above;
+    if middle > part.len() / FEW {
+        return middle + 1..part.len();
     }
     let pivot = part[middle];
-    let border = gather_level(axis, part, above, pivot);
+    let level = gather(
+        &mut part[middle + 1..],
+        |element| !pivot.is_before(element, axis),
+    );
+    let border = middle + 1 + level;
     if at < border {
-        return Window {
-            low: at,
-            high: at + 1,
-        };
+        return at..at + 1;
     }
-    Window {
-        low: border,
-        high: window.high,
-    }
+    border..part.len()
 }

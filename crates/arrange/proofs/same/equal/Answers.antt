@@ -1,13 +1,12 @@
-use Rattle.std.proofs.Common.{sym, refl, ◌∙◌, arith}
-use Rattle.std.proofs.lemmas.List.{take_all}
-use Rattle.arrange.proofs.Totals.{level-more}
+-- All pairs are level where the lists are the same.
+use Rattle.std.proofs.Common.{rules}
+use Rattle.std.proofs.lemmas.Iterator.{YieldsList-from_slice, YieldsList-from_zip, same_from_all}
+use Rattle.arrange.proofs.Totals.{level_equal, not_level}
 use Rattle.arrange.proofs.same.equal.Goals as goal
 
-pub loop-i-preserved : goal.loop-i-preserved
-loop-i-preserved g c =
-    level-more g.E.Element.before g.met.E.Element.total c.args.a.now c.args.b.now c.loop-i.i _ _ (omega arith) (omega arith) c.index-a-i.is c.index-b-i.is c.if-not-is_level.ensures c.loop-i.invariant
-
-pub returns : goal.returns
-returns g c =
-    let i = c.loop-i.i in
-    (λ _. sym (take_all i c.args.a.now (omega arith)) ∙ c.loop-i.invariant ∙ take_all i c.args.b.now (omega arith), λ _. refl)
+pub returns-then-a-b : goal.returns-then-a-b
+returns-then-a-b g c =
+    same_from_all c.all.new.self _ _ _ _ c.all.ensures.ran
+    (YieldsList-from_zip (YieldsList-from_slice c.args.a.now cc) (YieldsList-from_slice c.args.b.now cc)) (search rules)
+    (λ x q k. (search rules, level_equal g.E.Element.before g.met.E.Element.total _ _ (search rules)))
+    (λ x q k. not_level g.E.Element.before g.met.E.Element.total _ _ (search rules))

@@ -1,7 +1,11 @@
--- The partition between two exchanges halves the window.
+-- The partition between two exchanges halves the elements.
+use Rattle.std.proofs.Common.{rules}
+use Rattle.std.proofs.lemmas.List.Sorted.{IsPermutation-trans, IsPermutation-put_mid}
 use Rattle.select.proofs.Parting.{halved}
 use Rattle.select.proofs.partition.halve.Goals as goal
 
 pub returns : goal.returns
-returns g c =
-    halved _ _ _ _ _ _ _ _ _ _ c.requires.1.1 c.requires.0 c.requires.1.0 c.index-part-place.is c.exchange.ensures c.gather_before-border.ensures c.exchange-2.ensures
+returns g c = record {
+  kept = IsPermutation-trans _ _ _ c.swap.ensures.permutation (IsPermutation-trans _ _ _ (IsPermutation-put_mid 1 _ _ _ c.gather-middle.ensures.kept) c.swap-2.ensures.permutation);
+  halved = halved _ _ _ _ _ _ _ _ _ (λ e front answer. search rules) c.requires c.index-part-place.is c.swap.ensures.after c.gather-middle.ensures.kept c.gather-middle.ensures.parted c.swap-2.ensures.after;
+}

@@ -1,12 +1,9 @@
--- Each turn exchanges two elements of the window.
-use Rattle.std.proofs.Common.{arith}
-use Rattle.select.proofs.Stirring.{stirred_then, stirred_exchange}
+use Rattle.std.proofs.Common.{◌∙◌}
+use Rattle.std.proofs.lemmas.List.Sorted.{IsPermutation-trans}
 use Rattle.select.proofs.sample.gather_middles.Goals as goal
 
-pub loop-from-preserved : goal.loop-from-preserved
-loop-from-preserved g c = (
-  stirred_then c.loop-from.invariant.0 (stirred_exchange _ _ _ _ _ _ (omega arith) (omega arith) (omega arith) (omega arith) (omega arith) c.exchange.ensures),
-  omega arith,
-  omega arith,
-  omega arith,
-)
+pub loop-place-preserved : goal.loop-place-preserved
+loop-place-preserved g c = record {
+  kept = IsPermutation-trans _ _ _ c.loop-place.invariant.kept c.swap.ensures.permutation;
+  long = c.swap.ensures.len ∙ c.loop-place.invariant.long;
+}

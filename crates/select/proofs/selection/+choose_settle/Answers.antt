@@ -1,23 +1,15 @@
--- Each turn narrows the window, whatever pivot is chosen.
-use Rattle.std.proofs.Common.{arith}
-use Rattle.select.proofs.Stirring.{stirred_none, stirred_then, stirred_wider}
-use Rattle.select.proofs.Settling.{narrowed_none, narrowed_then, narrowed_last}
+-- Each round settles what the one before has left, whatever pivot is chosen.
+use Rattle.std.proofs.lemmas.List.Sorted.{IsPermutation-trans, IsPermutation-put_mid}
+use Rattle.select.proofs.Places.{permutation_front}
+use Rattle.select.proofs.Settling.{settled_whole}
 use Rattle.select.proofs.selection.+choose_settle.Goals as goal
 
-pub choose-returns : goal.choose-returns
-choose-returns g t c = record {
-  stirred = stirred_then c.draw-sample.ensures.stirred (stirred_wider _ _ (omega arith) (omega arith) c.settle.ensures.stirred);
-  place = (omega arith, omega arith);
-}
+pub choose-returns-clause-kept : goal.choose-returns-clause-kept
+choose-returns-clause-kept g t c = IsPermutation-trans _ _ _ c.draw-sample.ensures.kept (permutation_front _ _ _ c.settle.ensures.kept)
 
-pub settle-loop-window-init : goal.settle-loop-window-init
-settle-loop-window-init g t c = narrowed_none _ (omega arith) (omega arith) (stirred_none _ _ _)
+pub settle-returns-clause-kept : goal.settle-returns-clause-kept
+settle-returns-clause-kept g t c =
+    IsPermutation-trans _ _ _ c.choose-place.ensures.kept (IsPermutation-trans _ _ _ c.narrow-left.ensures.kept (IsPermutation-put_mid _ _ _ _ c.settle.ensures.kept))
 
-pub settle-loop-window-preserved : goal.settle-loop-window-preserved
-settle-loop-window-preserved g t c =
-    let so_far = c.loop-window.invariant in
-    let chosen = narrowed_none _ so_far.first_at so_far.at_last c.choose-place.ensures.stirred in
-    narrowed_then _ so_far (narrowed_then _ chosen c.narrow-inner.ensures.narrowed)
-
-pub settle-returns : goal.settle-returns
-settle-returns g t c = narrowed_last _ (omega arith) c.loop-window.invariant
+pub settle-returns-clause-settled : goal.settle-returns-clause-settled
+settle-returns-clause-settled g t c = settled_whole _ c.narrow-left.ensures.narrowed c.settle.ensures.kept c.settle.ensures.settled

@@ -1,34 +1,21 @@
--- Each of the five ways out narrows the window.
-use Rattle.std.proofs.Common.{arith}
-use Rattle.select.proofs.Narrowing.{narrowed_below, narrowed_there, narrowed_above, narrowed_level, narrowed_behind}
+-- What is gathered above the pivot is level with it.
+use Rattle.std.proofs.Common.{rules, arith}
+use Rattle.std.proofs.lemmas.List.Sorted.{IsPermutation-trans, IsPermutation-put_mid}
+use Rattle.select.proofs.Narrowing.{narrowed_level, narrowed_behind}
 use Rattle.select.proofs.selection.narrow.Goals as goal
 
-pub returns-then-at-middle : goal.returns-then-at-middle
-returns-then-at-middle g c = record {
-  narrowed = narrowed_below g.met.E.Element.total c.args.axis _ c.halve-middle.ensures (omega arith) (omega arith);
-  smaller = λ h. omega (arith, c.halve-middle.ensures.to);
-}
+pub returns-then-at-border-clause-kept : goal.returns-then-at-border-clause-kept
+returns-then-at-border-clause-kept g c =
+    IsPermutation-trans _ _ _ c.halve-middle.ensures.kept (IsPermutation-put_mid _ _ _ _ c.gather-level.ensures.kept)
 
-pub returns-then-at-middle-2 : goal.returns-then-at-middle-2
-returns-then-at-middle-2 g c = record {
-  narrowed = narrowed_there g.met.E.Element.total c.args.axis _ c.halve-middle.ensures (omega arith);
-  smaller = λ h. omega arith;
-}
+pub returns-then-at-border-clause-narrowed : goal.returns-then-at-border-clause-narrowed
+returns-then-at-border-clause-narrowed g c =
+    narrowed_level g.met.E.Element.total c.args.axis _ c.halve-middle.ensures.halved _ c.index-part-middle.is (λ e front answer. search rules) c.gather-level.ensures.kept c.gather-level.ensures.parted (omega arith) (omega arith)
 
-pub returns-then-middle-window : goal.returns-then-middle-window
-returns-then-middle-window g c = record {
-  narrowed = narrowed_above g.met.E.Element.total c.args.axis _ c.halve-middle.ensures (omega arith) (omega arith);
-  smaller = λ h. omega (arith, c.halve-middle.ensures.from);
-}
+pub returns-clause-kept : goal.returns-clause-kept
+returns-clause-kept g c =
+    IsPermutation-trans _ _ _ c.halve-middle.ensures.kept (IsPermutation-put_mid _ _ _ _ c.gather-level.ensures.kept)
 
-pub returns-then-at-border : goal.returns-then-at-border
-returns-then-at-border g c = record {
-  narrowed = narrowed_level g.met.E.Element.total c.args.axis _ c.halve-middle.ensures _ c.index-part-middle.is (omega arith) c.gather_level-border.ensures (omega arith) (omega arith);
-  smaller = λ h. omega arith;
-}
-
-pub returns : goal.returns
-returns g c = record {
-  narrowed = narrowed_behind g.met.E.Element.total c.args.axis _ c.halve-middle.ensures _ c.index-part-middle.is (omega arith) c.gather_level-border.ensures (omega arith) (omega arith);
-  smaller = λ h. omega (arith, c.halve-middle.ensures.from, c.gather_level-border.ensures.from);
-}
+pub returns-clause-narrowed : goal.returns-clause-narrowed
+returns-clause-narrowed g c =
+    narrowed_behind g.met.E.Element.total c.args.axis _ c.halve-middle.ensures.halved _ c.index-part-middle.is (λ e front answer. search rules) c.gather-level.ensures.kept c.gather-level.ensures.parted (omega arith) (omega (arith, c.halve-middle.auto.part))
