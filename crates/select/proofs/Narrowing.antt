@@ -52,33 +52,6 @@ module _ {E : Type 0} {before : Axis → E → E → Bool} (orders : TotalOrders
         (λ n. h.others k d (omega (arith, n)) g)
         (cases_eq k middle)
 
-    pub narrowed_below : at < middle → Narrowed (before axis) at 0 middle ys
-    narrowed_below to = record {
-      first_at = omega arith;
-      at_last = to;
-      inside = omega (arith, h.inside);
-      left = λ j k d jb bk kh. absurd (omega arith);
-      right = divided_by middle middle ys (λ k d m. small k d (omega arith)) great;
-    }
-
-    pub narrowed_there : at ≡ middle → Narrowed (before axis) at at (at + 1) ys
-    narrowed_there e = record {
-      first_at = omega arith;
-      at_last = omega arith;
-      inside = omega (arith, h.inside);
-      left = divided_by at middle ys (λ k d m. small k d (omega arith)) (λ k d m g. great k d (omega arith) g);
-      right = divided_by (at + 1) middle ys (λ k d m. small k d (omega arith)) (λ k d m g. great k d (omega arith) g);
-    }
-
-    pub narrowed_above : middle < at → at < length ys → Narrowed (before axis) at (middle + 1) (length ys) ys
-    narrowed_above from to = record {
-      first_at = omega arith;
-      at_last = to;
-      inside = omega arith;
-      left = divided_by (middle + 1) middle ys (λ k d m. small k d (omega arith)) (λ k d m g. great k d (omega arith) g);
-      right = λ j k d jb bk kh. absurd (omega arith);
-    }
-
     -- the elements level with the pivot are gathered above it
     module _ {rest : List E} {level : ℕ} {answers : E → Bool → Type 0} (pivot : E) (is : pivot ≡ get_or ys middle pivot)
         (tells : (e : E) (front : Bool) → answers e front → front ≡ not (before axis pivot e))

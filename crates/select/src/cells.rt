@@ -16,7 +16,8 @@ impl Element for Cell {
     }
 }
 
-/// A cell as one number, on top the coordinate that the axis compares first: cells compare as their numbers do.
+/// A cell as one number, on top the coordinate that the axis compares first: cells compare as their numbers do. Tuples of the
+/// coordinates compare by branches, and arranging random cells then takes twice as long.
 fn key(cell: Cell, axis: Axis) -> u64
     ensures { result ≡ first axis cell * 2 ^ 32 + second axis cell }
 {

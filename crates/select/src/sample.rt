@@ -1,5 +1,5 @@
 //! Samples, whose middle is the pivot of a large slice.
-ghost use Rattle.std.specs.Prelude.{◌≡◌, ◌/◌, ◌<◌, ◌≤◌, length};
+ghost use Rattle.std.specs.Prelude.{◌≡◌, ◌/◌, ◌^◌, ◌<◌, ◌≤◌, length};
 ghost use Rattle.std.specs.List.Sorted.{IsPermutation};
 
 use crate::pivot::place_of_rank;
@@ -21,11 +21,11 @@ pub fn draw_even<E: Element>(part: &mut [E], at: usize) -> Sample
     ensures count { result.count < length part.old }
 {
     let root = cube_root(part.len());
-    let stride = root.saturating_mul(2);
+    let stride = 2 * root;
     let count = gather_even(part, stride);
     let near = at / stride;
     let place = if at < part.len() - at {
-        near.saturating_add(root)
+        near + root
     } else {
         near.saturating_sub(root)
     };
@@ -38,9 +38,9 @@ pub fn draw_even<E: Element>(part: &mut [E], at: usize) -> Sample
 /// A power of two near the cube root.
 fn cube_root(number: usize) -> usize
     requires { 0 < number }
-    ensures { 0 < result }
+    ensures { (0 < result) × (result < 2 ^ 32) }
 {
-    (1 << (number.ilog2() / 3)).max(1)
+    1 << (number.ilog2() / 3)
 }
 
 /// Brings every element that is so many places from the last one to the front, and tells how many these are.

@@ -43,11 +43,12 @@ fn settle<E: Element>(axis: Axis, part: &mut [E], at: usize, bad: usize)
     }
     let place = choose(axis, part, at, bad);
     let left = narrow(axis, part, at, place);
-    let is_bad = left.end - left.start > count / 8 * 7;
+    let is_bad = left.len() > count / 8 * 7;
+    let at = at - left.start;
     settle(
         axis,
-        &mut part[left.start..left.end],
-        at - left.start,
+        &mut part[left],
+        at,
         bad.saturating_add(usize::from(is_bad)),
     );
 }
