@@ -1,5 +1,5 @@
 -- The answer to the wish to write, in each case. Assumes nothing.
-use Rattle.std.proofs.Common.{◌≡◌, ℕ, ◌<◌, ◌≤◌, true, false, List, length, Ok, Err, Result, sym, refl, arith}
+use Rattle.std.proofs.Common.{◌≡◌, ℕ, ◌<◌, ◌≤◌, true, false, List, length, Ok, Err, Result, MatchResult, sym, refl, arith}
 use Rattle.std.proofs.lemmas.Bool.{le-leb, lt-leb}
 use Rattle.numlist.specs.Calls.{narrow, write_answer}
 use Rattle.numlist.specs.Lists.{Meaning, most}
@@ -21,3 +21,10 @@ module _ (L : Meaning) (xs : List ℕ) (bytes : ℕ) (few : length xs ≤ most) 
 
 pub never_both : (fault : ListFault) (n : ℕ) → ◌≡◌ {A = Result ℕ ListFault} (Err fault) (Ok n) → ⊥
 never_both fault n e = let z : ◌≡◌ {A = ℕ} 0 1 = cc in omega arith
+
+-- a number that went through unchanged
+pub ok_through :
+    (r q : Result ℕ ListFault) (P : ListFault → Type 0) (a b : ℕ) → MatchResult r (λ x. q ≡ Ok x) P → r ≡ Ok a → q ≡ Ok b
+    → b ≡ a
+ok_through (Ok x) q P a b went e f = cc
+ok_through (Err fault) q P a b went e f = absurd (never_both fault a e)

@@ -3,9 +3,9 @@ use Rattle.std.proofs.Common.{◌≡◌, ℕ, ◌+◌, ◌*◌, ◌/◌, ◌%◌
 use native.Mathlib.Nat.{add-mul-mod_self_right}
 use lib.Bits.{bit_or}
 use lib.Pow.{split}
-use Rattle.std.proofs.ByRecursion.{All-get_or, All-drop, All-from_get_or}
+use Rattle.std.proofs.ByRecursion.{All-get_or, All-drop}
 use Rattle.std.proofs.lemmas.List.Sums.{sum_by_more, sum_by-take-le}
-use Rattle.std.proofs.lemmas.Bool.{cases_Bool, cases_eq}
+use Rattle.std.proofs.lemmas.Bool.{cases_eq}
 use Rattle.bits.specs.Packing.{unpacked, Narrow}
 use Rattle.bits.proofs.Packings.{length-unpacked, narrow-unpacked}
 use Rattle.bits.proofs.Writings.{low_word}
@@ -13,9 +13,10 @@ use Rattle.numlist.specs.Lists.{Meaning, Sound, most}
 use Rattle.numlist.specs.Cuts.{marks_at, below_at, marks_in, ones_in, below_in, highs_in, nonzero, verdict_of, cut}
 use Rattle.numlist.specs.Placed.{NoEmpty, low_with_mark}
 use Rattle.numlist.specs.CutSound.{cut_sound}
-use Rattle.numlist.specs.CutVerdicts.{Passed, passed, nonzero_decides}
+use Rattle.numlist.specs.CutVerdicts.{Passed, passed}
 use Rattle.numlist.specs.Directories.{sum-narrow}
 use Rattle.numlist.specs.Weaving.{get_or-weave}
+use Rattle.numlist.proofs.Zeros.{no_zeros}
 
 -- numbers before and behind a word
 regroup : (l p q m r : ℕ) → l + p * (1 * (q * m + r)) ≡ (r * p + l) + (p * q) * m
@@ -102,12 +103,7 @@ module _ (b : ℕ) (L : Meaning) (some : 1 ≤ b) (sound : Sound L) (bytes : Lis
       omega (arith, marked_one b L bytes m i h e))
       (cases_eq (get_or (marks_in b bytes m) i 0) 0)
 
-  pub no_zeros : (r : Bool) → NoEmpty b m bytes r → r ≡ nonzero ((cut b L).numbers bytes m)
-  no_zeros true each =
-      sym ((nonzero_decides ((cut b L).numbers bytes m)).1
-      (All-from_get_or (λ x. 0 < x) ((cut b L).numbers bytes m) 0 (λ i h. let here : i < m = omega (arith, count) in none_there i here (each i here))))
-  no_zeros false (i, h, e) =
-      ⊎_elim
-      (λ t. let all = (nonzero_decides ((cut b L).numbers bytes m)).0 t in absurd (omega (arith, zero_there i h e, All-get_or (λ x. 0 < x) ((cut b L).numbers bytes m) i 0 (omega (arith, count)) all)))
-      (λ f. sym f)
-      (cases_Bool (nonzero ((cut b L).numbers bytes m)))
+  pub no_zero : (r : Bool) → NoEmpty b m bytes r → r ≡ nonzero ((cut b L).numbers bytes m)
+  no_zero true each =
+      no_zeros m ((cut b L).numbers bytes m) count true (λ i h e. let some = none_there i h (each i h) in omega (arith, some, e))
+  no_zero false (i, h, e) = no_zeros m ((cut b L).numbers bytes m) count false (i, h, zero_there i h e)

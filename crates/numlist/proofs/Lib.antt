@@ -4,7 +4,6 @@ pub mod Answering
 pub mod Zeros
 pub mod Marks
 pub mod CutPuts
-pub mod CutJudged
 pub mod CutReads
 pub mod Trips
 mod Pushes

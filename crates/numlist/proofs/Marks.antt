@@ -1,5 +1,6 @@
 -- Marks and entries in bytes, by their places. Assumes nothing.
 use Rattle.std.proofs.Common.{◌≡◌, ℕ, zero, suc, ◌+◌, ◌-◌, ◌*◌, ◌/◌, ◌%◌, ◌^◌, ◌<◌, ◌≤◌, min, List, ◌∷◌, ◌++◌, length, get_or, take, drop, sum, sym, refl, ap, ◌∙◌, ⊎_elim, suc-add, mul-zero, zero-add, mul-suc, arith, shr-shr}
+use Rattle.std.proofs.ByRecursion.{All-from_get_or}
 use Rattle.std.proofs.lemmas.List.FromFn.{get_or-map-range_with_len}
 use Rattle.std.proofs.lemmas.List.{take_all}
 use Rattle.std.proofs.lemmas.List.Sums.{sum_by-append}
@@ -8,6 +9,10 @@ use Rattle.bits.specs.Packing.{value, digits, unpacked, Narrow}
 use Rattle.bits.proofs.Digits.{get_or-digits}
 use Rattle.bits.proofs.Words.{value-behind}
 use Rattle.numlist.specs.Parts.{entries, directory}
+
+-- bytes, one by one
+pub all_bytes : (bytes : List ℕ) → ((i : ℕ) → get_or bytes i 0 < 256) → Narrow 8 bytes
+all_bytes bytes small = All-from_get_or (λ x. x < 2 ^ 8) bytes 0 (λ i h. small i)
 
 -- number i of w bits behind some bytes
 pub number_behind :

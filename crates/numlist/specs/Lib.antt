@@ -5,6 +5,7 @@ pub mod Cuts
 pub mod Refusals
 pub mod Calls
 pub mod Placed
+pub mod Shown
 pub mod CutSound
 pub mod CutStrings
 pub mod CutSections

@@ -8,9 +8,9 @@ ghost use Rattle.numlist.specs.Placed.{Placed};
 ghost use Rattle.numlist.specs.CutSound.{cut_sound};
 
 use crate::parts::{count, put_directory_at, put_lows, put_marks_at};
-use crate::places::{all_ones, has_no_empty, is_directory, low_at, mark_at, place, rank};
-use crate::{CutRefused, ListFault, NumberList, Places, Test};
-use bits::{Width, is_filled};
+use crate::places::Sections;
+use crate::{Count, CutRefused, ListFault, NumberList, Places, Test};
+use bits::Width;
 use std::alloc::AllocError;
 
 /// The most bits that a cut keeps.
@@ -39,7 +39,7 @@ impl<L: NumberList + Copy> Clone for Cut<L> {
 #[derive(Clone, Copy)]
 pub struct CutLayout<B> {
     places: Places,
-    ones: usize,
+    ones: Count,
     below: B,
 }
 
@@ -70,33 +70,12 @@ fn deeper(skip: u32, width: Width) -> u32
     (skip + width.bits()).min(64)
 }
 
-// A fault of the list below, as this list tells it.
-fn one_deeper(fault: ListFault) -> ListFault
-    ensures { result ≡ record { level = min 18446744073709551615 (fault.level + 1); test = fault.test } }
-{
-    ListFault {
-        level: fault.level.saturating_add(1),
-        test: fault.test,
-    }
-}
-
-// Whether the fill bits of the low parts and of the marks are 0.
-fn are_filled(places: Places, width: Width, bytes: &[u8], m: usize) -> bool
-    requires few { m ≤ most }
-    requires placed { Placed width.bits m places }
-    requires enough { below_at width.bits m ≤ length bytes.now }
-    ensures { result ≡ (filled width.bits m bytes.now && filled 1 m (drop (marks_at width.bits m) bytes.now)) }
-{
-    let marks = places.marks;
-    is_filled(bytes, width.bits() as usize * m) && is_filled(&bytes[marks..], m)
-}
-
 impl<L: NumberList> NumberList for Cut<L> {
     type Layout = CutLayout<L::Layout>;
 
     ghost meaning = { λ s. cut s.width.bits (L.NumberList.meaning s.below) };
 
-    ghost laid = { λ s bytes m layout. Placed s.width.bits m layout.places × (below_at s.width.bits m ≤ length bytes) × (layout.ones ≡ ones_in s.width.bits bytes m) × L.NumberList.laid s.below (below_in s.width.bits bytes m) (ones_in s.width.bits bytes m) layout.below };
+    ghost laid = { λ s bytes m layout. Placed s.width.bits m layout.places × (below_at s.width.bits m ≤ length bytes) × (layout.ones.numbers ≡ ones_in s.width.bits bytes m) × L.NumberList.laid s.below (below_in s.width.bits bytes m) (ones_in s.width.bits bytes m) layout.below };
 
     ghost sound = { λ s. cut_sound s.width.bits (L.NumberList.meaning s.below) s.width.low (L.NumberList.sound s.below) };
 
@@ -107,14 +86,24 @@ impl<L: NumberList> NumberList for Cut<L> {
     }
 
     fn size(&self, numbers: &[u64], skip: u32) -> usize {
-        let places = place(self.width, count(numbers, skip));
+        let places = Places::new(
+            self.width,
+            Count {
+                numbers: count(numbers, skip),
+            },
+        );
         places
             .below
             .saturating_add(self.below.size(numbers, deeper(skip, self.width)))
     }
 
     fn put(&self, numbers: &[u64], skip: u32, out: &mut [u8]) {
-        let places = place(self.width, count(numbers, skip));
+        let places = Places::new(
+            self.width,
+            Count {
+                numbers: count(numbers, skip),
+            },
+        );
         let at = places.below;
         if out.len() < at {
             return;
@@ -126,93 +115,68 @@ impl<L: NumberList> NumberList for Cut<L> {
             .put(numbers, deeper(skip, self.width), &mut out[at..]);
     }
 
-    fn judge(&self, bytes: &[u8], m: usize) -> Result<usize, ListFault> {
-        let places = place(self.width, m);
-        if bytes.len() < places.below {
-            return Err(ListFault {
-                level: 0,
-                test: Test::TooFew,
-            });
+    fn judge(&self, bytes: &[u8], count: Count) -> Result<usize, ListFault> {
+        let sections = Sections::new(self.width, count, bytes)?;
+        if !sections.are_filled() {
+            return Err(ListFault::here(Test::Fill));
         }
-        if !are_filled(places, self.width, bytes, m) {
-            return Err(ListFault {
-                level: 0,
-                test: Test::Fill,
-            });
+        if !sections.is_directory() {
+            return Err(ListFault::here(Test::Directory));
         }
-        if !is_directory(places, self.width, m, bytes) {
-            return Err(ListFault {
-                level: 0,
-                test: Test::Directory,
-            });
+        let at = sections.places.below;
+        let rest = sections.below();
+        let ones = sections.all_ones();
+        let length = self.below.judge(rest, ones).map_err(ListFault::one_deeper)?;
+        if !self.below.has_no_zero(rest, ones) {
+            return Err(ListFault::here(Test::ZeroPart));
         }
-        let ones = all_ones(places, self.width, m, bytes);
-        let at = places.below;
-        let rest = &bytes[at..];
-        match self.below.judge(rest, ones) {
-            Ok(length) => {
-                if !self.below.has_no_zero(rest, ones) {
-                    return Err(ListFault {
-                        level: 0,
-                        test: Test::ZeroPart,
-                    });
-                }
-                Ok(at + length)
-            }
-            Err(fault) => Err(one_deeper(fault)),
-        }
+        Ok(at + length)
     }
 
-    fn has_no_zero(&self, bytes: &[u8], m: usize) -> bool {
-        has_no_empty(place(self.width, m), self.width, m, bytes)
+    fn has_no_zero(&self, bytes: &[u8], count: Count) -> bool {
+        Sections::new(self.width, count, bytes).is_ok_and(|sections| sections.has_no_empty())
     }
 
-    fn layout(&self, bytes: &[u8], m: usize) -> Result<CutLayout<L::Layout>, ListFault> {
-        let places = place(self.width, m);
-        if bytes.len() < places.below {
-            return Err(ListFault {
-                level: 0,
-                test: Test::TooFew,
-            });
-        }
-        let ones = all_ones(places, self.width, m, bytes);
-        let at = places.below;
-        match self.below.layout(&bytes[at..], ones) {
-            Ok(below) => Ok(CutLayout {
-                places,
-                ones,
-                below,
-            }),
-            Err(fault) => Err(one_deeper(fault)),
-        }
+    fn layout(&self, bytes: &[u8], count: Count) -> Result<CutLayout<L::Layout>, ListFault> {
+        let sections = Sections::new(self.width, count, bytes)?;
+        let ones = sections.all_ones();
+        let below = self
+            .below
+            .layout(sections.below(), ones)
+            .map_err(ListFault::one_deeper)?;
+        Ok(CutLayout {
+            places: sections.places,
+            ones,
+            below,
+        })
     }
 
     fn read_at(
         &self,
         layout: &CutLayout<L::Layout>,
         bytes: &[u8],
-        m: usize,
+        count: Count,
         i: usize,
     ) -> Result<u64, ListFault> {
         let width = self.width;
-        let low = low_at(width, m, bytes, i);
-        if mark_at(layout.places, width, m, bytes, i) == 0 {
+        let sections = Sections {
+            places: layout.places,
+            width,
+            count,
+            bytes,
+        };
+        let low = sections.low_at(i);
+        if sections.mark_at(i) == 0 {
             return Ok(low);
         }
-        let place = rank(layout.places, width, m, bytes, i);
-        if place >= layout.ones {
-            return Err(ListFault {
-                level: 0,
-                test: Test::Directory,
-            });
+        let place = sections.rank(i);
+        if place >= layout.ones.get() {
+            return Err(ListFault::here(Test::Directory));
         }
-        let at = layout.places.below;
-        match self
+        let high = self
             .below
-            .read_at(&layout.below, &bytes[at..], layout.ones, place)
-        {
-            Ok(high) => Ok(low | high << width.bits()),
-            Err(fault) => Err(one_deeper(fault)),
-        }
+            .read_at(&layout.below, sections.below(), layout.ones, place)
+            .map_err(ListFault::one_deeper)?;
+        Ok(low | high << width.bits())
     }
 }

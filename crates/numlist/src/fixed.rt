@@ -1,13 +1,12 @@
 //! The fixed list: every number takes the same number of bits.
-ghost use Rattle.std.specs.Prelude.{◌≡◌, ◌≤◌, is_ok, IfOk};
-ghost use Rattle.bits.specs.Packing.{room};
+ghost use Rattle.std.specs.Prelude.{◌≡◌, ◌^◌, ◌<◌, is_ok, IfOk, slice_index};
+ghost use Rattle.bits.specs.Packing.{room, unpacked};
 ghost use Rattle.bits.specs.Widths.{allowed};
 ghost use Rattle.numlist.specs.Fixed.{fixed};
-ghost use Rattle.numlist.specs.Lists.{most};
 ghost use Rattle.numlist.specs.FixedSound.{fixed_sound, fixed_within};
 
 use crate::parts::{count, put_lows};
-use crate::{ListFault, NumberList, Test, WidthRefused};
+use crate::{Count, ListFault, NumberList, Test, WidthRefused};
 use bits::{Width, is_filled, read};
 
 /// Numbers of the same width, one after another.
@@ -22,40 +21,26 @@ impl Fixed {
         ensures refused { is_ok result ≡ allowed bits }
         ensures made { IfOk result (λ s. s.width.bits ≡ bits) }
     {
-        match Width::new(bits) {
-            Some(width) => Ok(Fixed { width }),
-            None => Err(WidthRefused),
-        }
+        let width = Width::new(bits).ok_or(WidthRefused)?;
+        Ok(Fixed { width })
     }
 }
 
 /// The bytes that so many numbers of a width take.
-pub(crate) fn room(width: Width, count: usize) -> usize
-    requires { count ≤ most }
-    ensures { result ≡ room width.bits count }
+pub(crate) fn room(width: Width, count: Count) -> usize
+    ensures { result ≡ room width.bits count.numbers }
 {
-    (width.bits() as usize * count + 7) / 8
+    (width.bits() as usize * count.get() + 7) / 8
 }
 
-/// Whether the bytes begin with `count` numbers of a width, with no bit of 1 behind them in their last byte.
-fn judge(width: Width, bytes: &[u8], count: usize) -> Result<usize, ListFault>
-    requires { count ≤ most }
-    ensures { result ≡ (fixed width.bits).verdict bytes.now count }
+/// Number `i` of the numbers of a width with which bytes begin.
+pub(crate) fn number_at(width: Width, count: Count, bytes: &[u8], i: usize) -> u64
+    requires { i < count.numbers }
+    ensures number { result ≡ slice_index (unpacked width.bits count.numbers bytes.now) i }
+    ensures small { result < 2 ^ width.bits }
+    ensures word { result < 281474976710656 }
 {
-    let room = room(width, count);
-    if bytes.len() < room {
-        return Err(ListFault {
-            level: 0,
-            test: Test::TooFew,
-        });
-    }
-    if !is_filled(bytes, width.bits() as usize * count) {
-        return Err(ListFault {
-            level: 0,
-            test: Test::Fill,
-        });
-    }
-    Ok(room)
+    read(bytes, width.bits() as usize * i, width)
 }
 
 impl NumberList for Fixed {
@@ -74,33 +59,44 @@ impl NumberList for Fixed {
     }
 
     fn size(&self, numbers: &[u64], skip: u32) -> usize {
-        room(self.width, count(numbers, skip))
+        room(
+            self.width,
+            Count {
+                numbers: count(numbers, skip),
+            },
+        )
     }
 
     fn put(&self, numbers: &[u64], skip: u32, out: &mut [u8]) {
         put_lows(numbers, skip, self.width, out);
     }
 
-    fn judge(&self, bytes: &[u8], m: usize) -> Result<usize, ListFault> {
-        judge(self.width, bytes, m)
-    }
-
-    fn has_no_zero(&self, bytes: &[u8], m: usize) -> bool {
-        let width = self.width;
-        for i in 0..m {
-            if read(bytes, width.bits() as usize * i, width) == 0 {
-                return false;
-            }
+    fn judge(&self, bytes: &[u8], count: Count) -> Result<usize, ListFault> {
+        let room = room(self.width, count);
+        if bytes.len() < room {
+            return Err(ListFault::here(Test::TooFew));
         }
-        true
+        if !is_filled(bytes, self.width.bits() as usize * count.get()) {
+            return Err(ListFault::here(Test::Fill));
+        }
+        Ok(room)
     }
 
-    fn layout(&self, _bytes: &[u8], _m: usize) -> Result<(), ListFault> {
+    fn has_no_zero(&self, bytes: &[u8], count: Count) -> bool {
+        (0..count.get()).all(|i| number_at(self.width, count, bytes, i) != 0)
+    }
+
+    fn layout(&self, _bytes: &[u8], _count: Count) -> Result<(), ListFault> {
         Ok(())
     }
 
-    fn read_at(&self, _layout: &(), bytes: &[u8], _m: usize, i: usize) -> Result<u64, ListFault> {
-        let width = self.width;
-        Ok(read(bytes, width.bits() as usize * i, width))
+    fn read_at(
+        &self,
+        _layout: &(),
+        bytes: &[u8],
+        count: Count,
+        i: usize,
+    ) -> Result<u64, ListFault> {
+        Ok(number_at(self.width, count, bytes, i))
     }
 }

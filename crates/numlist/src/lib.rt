@@ -1,6 +1,7 @@
 //! Number lists: many numbers as one string of bytes.
 #![tactic(auto)]
 
+mod count;
 mod cut;
 mod fault;
 mod fixed;
@@ -10,6 +11,7 @@ mod places;
 mod refusal;
 mod trip;
 
+pub use count::Count;
 pub use cut::{Cut, CutLayout, MOST_CUT_BITS};
 pub use fault::{ListFault, Test};
 pub use fixed::Fixed;

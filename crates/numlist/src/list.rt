@@ -8,7 +8,7 @@ ghost use Rattle.numlist.specs.Parts.{above};
 ghost use Rattle.numlist.specs.Refusals.{read_number};
 
 use crate::parts::is_narrow;
-use crate::{ListFault, OpenRefused, ReadRefused, WriteRefused};
+use crate::{Count, ListFault, OpenRefused, ReadRefused, WriteRefused};
 
 /// The most numbers of a list.
 pub const MOST_NUMBERS: usize = 1_048_576;
@@ -42,34 +42,30 @@ pub trait NumberList {
         requires few { length numbers.now ≤ most }
         ensures { Narrow (meaning self.now).reach (above skip numbers.now) → length ((meaning self.now).string (above skip numbers.now)) ≤ length out.old → out.new ≡ (meaning self.now).string (above skip numbers.now) ++ drop (length ((meaning self.now).string (above skip numbers.now))) out.old };
 
-    /// The bytes of the string of `m` numbers with which bytes begin, or their first fault.
-    fn judge(&self, bytes: &[u8], m: usize) -> Result<usize, ListFault>
-        requires { m ≤ most }
+    /// The bytes of the string of so many numbers with which bytes begin, or their first fault.
+    fn judge(&self, bytes: &[u8], count: Count) -> Result<usize, ListFault>
         ensures bound { elim result [ Ok n ↦ n ≤ length bytes.now | Err fault ↦ fault.level < (meaning self.now).reach ] }
-        ensures verdict { result ≡ (meaning self.now).verdict bytes.now m };
+        ensures verdict { result ≡ (meaning self.now).verdict bytes.now count.numbers };
 
-    /// Whether none of the `m` numbers of a string is 0.
-    fn has_no_zero(&self, bytes: &[u8], m: usize) -> bool
-        requires { m ≤ most }
-        ensures { (n : ℕ) → (meaning self.now).verdict bytes.now m ≡ Ok n → result ≡ nonzero ((meaning self.now).numbers bytes.now m) };
+    /// Whether none of the numbers of a string is 0.
+    fn has_no_zero(&self, bytes: &[u8], count: Count) -> bool
+        ensures { (n : ℕ) → (meaning self.now).verdict bytes.now count.numbers ≡ Ok n → result ≡ nonzero ((meaning self.now).numbers bytes.now count.numbers) };
 
-    /// Where the sections of the string of `m` numbers lie, or a fault if bytes do not begin with one.
-    fn layout(&self, bytes: &[u8], m: usize) -> Result<Self::Layout, ListFault>
-        requires { m ≤ most }
-        ensures { elim result [ Ok layout ↦ laid self.now bytes.now m layout | Err _ ↦ ((n : ℕ) → (meaning self.now).verdict bytes.now m ≢ Ok n) ] };
+    /// Where the sections of the string of so many numbers lie, or a fault if bytes do not begin with one.
+    fn layout(&self, bytes: &[u8], count: Count) -> Result<Self::Layout, ListFault>
+        ensures { elim result [ Ok layout ↦ laid self.now bytes.now count.numbers layout | Err _ ↦ ((n : ℕ) → (meaning self.now).verdict bytes.now count.numbers ≢ Ok n) ] };
 
     /// Number `i` of a string, the lowest 64 bits of it. Of other bytes any number or a fault.
     fn read_at(
         &self,
         layout: &Self::Layout,
         bytes: &[u8],
-        m: usize,
+        count: Count,
         i: usize,
     ) -> Result<u64, ListFault>
-        requires few { m ≤ most }
-        requires inside { i < m }
-        requires laid { laid self.now bytes.now m layout.now }
-        ensures { (n : ℕ) → (meaning self.now).verdict bytes.now m ≡ Ok n → result ≡ Ok (slice_index ((meaning self.now).numbers bytes.now m) i % 2 ^ 64) };
+        requires inside { i < count.numbers }
+        requires laid { laid self.now bytes.now count.numbers layout.now }
+        ensures { (n : ℕ) → (meaning self.now).verdict bytes.now count.numbers ≡ Ok n → result ≡ Ok (slice_index ((meaning self.now).numbers bytes.now count.numbers) i % 2 ^ 64) };
 
     /// Writes the string of the numbers at the front of the bytes, leaves the bytes behind it, and tells its length. A
     /// refusal leaves all bytes as they are.
@@ -95,13 +91,8 @@ pub trait NumberList {
     fn open(&self, bytes: &[u8], m: usize) -> Result<usize, OpenRefused>
         ensures { result ≡ open_answer (meaning self.now) bytes.now m }
     {
-        if m > MOST_NUMBERS {
-            return Err(OpenRefused::TooMany);
-        }
-        match self.judge(bytes, m) {
-            Ok(length) => Ok(length),
-            Err(fault) => Err(OpenRefused::Faulty(fault)),
-        }
+        let count = Count::new(m).ok_or(OpenRefused::TooMany)?;
+        Ok(self.judge(bytes, count)?)
     }
 
     /// Number `i` of the string of `m` numbers with which bytes begin. Of other bytes any number or a fault.
@@ -111,19 +102,12 @@ pub trait NumberList {
         ensures number { (n : ℕ) → m ≤ most → i < m → (meaning self.now).verdict bytes.now m ≡ Ok n → result ≡ Ok (slice_index ((meaning self.now).numbers bytes.now m) i) }
         ensures others { m ≤ most → i < m → elim result [ Ok _ ↦ Unit {0} | Err refusal ↦ read_number refusal ≡ 13 ] }
     {
-        if m > MOST_NUMBERS {
-            return Err(ReadRefused::TooMany);
-        }
+        let count = Count::new(m).ok_or(ReadRefused::TooMany)?;
         if i >= m {
             return Err(ReadRefused::NoNumber);
         }
-        match self.layout(bytes, m) {
-            Ok(layout) => match self.read_at(&layout, bytes, m, i) {
-                Ok(number) => Ok(number),
-                Err(fault) => Err(ReadRefused::Faulty(fault)),
-            },
-            Err(fault) => Err(ReadRefused::Faulty(fault)),
-        }
+        let layout = self.layout(bytes, count)?;
+        Ok(self.read_at(&layout, bytes, count, i)?)
     }
 
     ghost sound: { (s : Self) → Sound (meaning s) };

@@ -1,14 +1,12 @@
 //! The sections of a cut in bytes: where they lie, and what they show.
-ghost use Rattle.std.specs.Prelude.{◌≡◌, ◌+◌, ◌*◌, ◌/◌, ◌%◌, ◌^◌, ◌<◌, ◌≤◌, take, sum, slice_index};
+ghost use Rattle.std.specs.Prelude.{◌≡◌, ℕ, ◌+◌, ◌*◌, ◌^◌, ◌<◌, ◌≤◌, length, take, sum, slice_index};
 ghost use Rattle.std.specs.Str.{bytes_eq};
-ghost use Rattle.bits.specs.Packing.{unpacked};
-ghost use Rattle.numlist.specs.Cuts.{marks_in, directory_in, ones_in};
-ghost use Rattle.numlist.specs.Lists.{most};
+ghost use Rattle.numlist.specs.Cuts.{marks_at, directory_at, below_at};
 ghost use Rattle.numlist.specs.Parts.{entries, directory};
-ghost use Rattle.numlist.specs.Placed.{Placed, NoEmpty, low_with_mark};
 
-use crate::fixed::room;
-use bits::{Width, bit, few_ones, ones, read};
+use crate::fixed::{number_at, room};
+use crate::{Count, ListFault, Test};
+use bits::{Width, bit, few_ones, is_filled, ones, read};
 
 /// Where the marks, the directory and the list below begin.
 #[derive(Clone, Copy)]
@@ -18,135 +16,164 @@ pub struct Places {
     pub(crate) below: usize,
 }
 
-/// The places for so many numbers.
-pub(crate) fn place(width: Width, count: usize) -> Places
-    requires { count ≤ most }
-    ensures { Placed width.bits count result }
-{
-    let marks = room(width, count);
-    let directory = marks + room(Width::mark(), count);
-    Places {
-        marks,
-        directory,
-        below: directory + 4 * ((count + 255) / 256),
-    }
-}
+impl Places {
+    ghost use Rattle.numlist.specs.Placed.{Placed};
 
-/// Mark `i`.
-pub(crate) fn mark_at(places: Places, width: Width, count: usize, bytes: &[u8], i: usize) -> u64
-    requires few { count ≤ most }
-    requires inside { i < count }
-    requires placed { Placed width.bits count places }
-    ensures mark { result ≡ slice_index (marks_in width.bits bytes.now count) i }
-    ensures bit { result < 2 }
-{
-    bit(bytes, 8 * places.marks + i)
-}
-
-/// Entry `group` of the directory.
-pub(crate) fn entry_at(
-    places: Places,
-    width: Width,
-    count: usize,
-    bytes: &[u8],
-    group: usize,
-) -> usize
-    requires few { count ≤ most }
-    requires inside { group < entries count }
-    requires placed { Placed width.bits count places }
-    ensures entry { result ≡ slice_index (directory_in width.bits bytes.now count) group }
-    ensures small { result < 4294967296 }
-{
-    read(bytes, 8 * places.directory + 32 * group, Width::count()) as usize
-}
-
-/// How many of the `n` marks from mark 256 × `group` on are 1.
-pub(crate) fn group_ones(
-    places: Places,
-    width: Width,
-    count: usize,
-    bytes: &[u8],
-    group: usize,
-    n: usize,
-) -> usize
-    requires few { count ≤ most }
-    requires inside { 256 * group + n ≤ count }
-    requires placed { Placed width.bits count places }
-    ensures counted { sum (take (256 * group + n) (marks_in width.bits bytes.now count)) ≡ sum (take (256 * group) (marks_in width.bits bytes.now count)) + result }
-    ensures few { result ≤ n }
-{
-    few_ones(bytes, places.marks + 32 * group, n)
-}
-
-/// How many marks before mark `i` are 1, as far as the directory is right.
-pub(crate) fn rank(places: Places, width: Width, count: usize, bytes: &[u8], i: usize) -> usize
-    requires few { count ≤ most }
-    requires inside { i < count }
-    requires placed { Placed width.bits count places }
-    ensures { directory_in width.bits bytes.now count ≡ directory (marks_in width.bits bytes.now count) → result ≡ sum (take i (marks_in width.bits bytes.now count)) }
-{
-    let group = i / 256;
-    entry_at(places, width, count, bytes, group)
-        + group_ones(places, width, count, bytes, group, i % 256)
-}
-
-/// How many marks are 1.
-pub(crate) fn all_ones(places: Places, width: Width, count: usize, bytes: &[u8]) -> usize
-    requires few { count ≤ most }
-    requires placed { Placed width.bits count places }
-    ensures counted { result ≡ ones_in width.bits bytes.now count }
-    ensures few { result ≤ count }
-{
-    ones(bytes, places.marks, count)
-}
-
-/// Whether each entry of the directory is the number of 1 marks before its group.
-pub(crate) fn is_directory(places: Places, width: Width, count: usize, bytes: &[u8]) -> bool
-    requires few { count ≤ most }
-    requires placed { Placed width.bits count places }
-    ensures { result ≡ bytes_eq (directory_in width.bits bytes.now count) (directory (marks_in width.bits bytes.now count)) }
-{
-    let mut ones = 0;
-    for group in 0..(count + 255) / 256 {
-        if entry_at(places, width, count, bytes, group) != ones {
-            return false;
-        }
-        let n = (count - 256 * group).min(256);
-        ones += group_ones(places, width, count, bytes, group, n);
-    }
-    true
-}
-
-/// Whether each number has a bit of 1 in its low part or its mark.
-pub(crate) fn has_no_empty(places: Places, width: Width, count: usize, bytes: &[u8]) -> bool
-    requires few { count ≤ most }
-    requires placed { Placed width.bits count places }
-    ensures { NoEmpty width.bits count bytes.now result }
-{
-    for i in 0..count {
-        if low_and_mark(places, width, count, bytes, i) == 0 {
-            return false;
+    /// The places for so many numbers.
+    pub(crate) fn new(width: Width, count: Count) -> Places
+        ensures { Placed width.bits count.numbers result }
+    {
+        let marks = room(width, count);
+        let directory = marks + room(Width::mark(), count);
+        Places {
+            marks,
+            directory,
+            below: directory + 4 * ((count.get() + 255) / 256),
         }
     }
-    true
 }
 
-fn low_and_mark(places: Places, width: Width, count: usize, bytes: &[u8], i: usize) -> u64
-    requires few { count ≤ most }
-    requires inside { i < count }
-    requires placed { Placed width.bits count places }
-    ensures { result ≡ low_with_mark width.bits count bytes.now i }
-{
-    low_at(width, count, bytes, i) + mark_at(places, width, count, bytes, i)
+/// The sections for so many numbers, in bytes that are enough for them.
+#[derive(Clone, Copy)]
+pub(crate) struct Sections<'a> {
+    pub(crate) places: Places,
+    pub(crate) width: Width,
+    pub(crate) count: Count,
+    pub(crate) bytes: &'a [u8],
+    ghost its_marks: { places.marks ≡ marks_at width.bits count.numbers },
+    ghost its_directory: { places.directory ≡ directory_at width.bits count.numbers },
+    ghost its_below: { places.below ≡ below_at width.bits count.numbers },
+    ghost enough: { places.below ≤ length bytes.now },
+    ghost are_bytes: { (i : ℕ) → slice_index bytes.now i < 256 },
 }
 
-/// Low part `i`.
-pub(crate) fn low_at(width: Width, count: usize, bytes: &[u8], i: usize) -> u64
-    requires few { count ≤ most }
-    requires inside { i < count }
-    ensures low { result ≡ slice_index (unpacked width.bits count bytes.now) i }
-    ensures small { result < 2 ^ width.bits }
-    ensures word { result < 281474976710656 }
-{
-    read(bytes, width.bits() as usize * i, width)
+impl<'a> Sections<'a> {
+    ghost use Rattle.numlist.specs.Placed.{NoEmpty, low_with_mark};
+    ghost use Rattle.numlist.specs.Shown.{SectionsIn, lows_of, marks_of, directory_of, filled_of, below_of};
+
+    /// The sections at the front of bytes, if there are enough of them.
+    pub(crate) fn new(
+        width: Width,
+        count: Count,
+        bytes: &'a [u8],
+    ) -> Result<Sections<'a>, ListFault>
+        ensures { SectionsIn width count bytes.now result }
+    {
+        let places = Places::new(width, count);
+        if bytes.len() < places.below {
+            return Err(ListFault::here(Test::TooFew));
+        }
+        Ok(Sections {
+            places,
+            width,
+            count,
+            bytes,
+        })
+    }
+
+    /// Low part `i`.
+    pub(crate) fn low_at(&self, i: usize) -> u64
+        requires { i < self.now.count.numbers }
+        ensures low { result ≡ slice_index (lows_of self.now) i }
+        ensures small { result < 2 ^ self.now.width.bits }
+        ensures word { result < 281474976710656 }
+    {
+        number_at(self.width, self.count, self.bytes, i)
+    }
+
+    /// Mark `i`.
+    pub(crate) fn mark_at(&self, i: usize) -> u64
+        requires { i < self.now.count.numbers }
+        ensures mark { result ≡ slice_index (marks_of self.now) i }
+        ensures bit { result < 2 }
+    {
+        bit(self.bytes, 8 * self.places.marks + i)
+    }
+
+    /// Entry `group` of the directory.
+    fn entry_at(&self, group: usize) -> usize
+        requires { group < entries self.now.count.numbers }
+        ensures entry { result ≡ slice_index (directory_of self.now) group }
+        ensures small { result < 4294967296 }
+    {
+        read(
+            self.bytes,
+            8 * self.places.directory + 32 * group,
+            Width::count(),
+        ) as usize
+    }
+
+    /// How many of the `n` marks from mark 256 × `group` on are 1.
+    fn group_ones(&self, group: usize, n: usize) -> usize
+        requires { 256 * group + n ≤ self.now.count.numbers }
+        ensures counted { sum (take (256 * group + n) (marks_of self.now)) ≡ sum (take (256 * group) (marks_of self.now)) + result }
+        ensures few { result ≤ n }
+    {
+        few_ones(self.bytes, self.places.marks + 32 * group, n)
+    }
+
+    /// How many marks before mark `i` are 1, as far as the directory is right.
+    pub(crate) fn rank(&self, i: usize) -> usize
+        requires { i < self.now.count.numbers }
+        ensures { directory_of self.now ≡ directory (marks_of self.now) → result ≡ sum (take i (marks_of self.now)) }
+    {
+        let group = i / 256;
+        self.entry_at(group) + self.group_ones(group, i % 256)
+    }
+
+    /// How many marks are 1.
+    pub(crate) fn all_ones(&self) -> Count
+        ensures { result.numbers ≡ sum (marks_of self.now) }
+    {
+        Count {
+            numbers: ones(self.bytes, self.places.marks, self.count.numbers),
+        }
+    }
+
+    /// Whether the fill bits of the low parts and of the marks are 0.
+    pub(crate) fn are_filled(&self) -> bool
+        ensures { result ≡ filled_of self.now }
+    {
+        let count = self.count.numbers;
+        is_filled(self.bytes, self.width.bits() as usize * count)
+            && is_filled(&self.bytes[self.places.marks..], count)
+    }
+
+    /// Whether each entry of the directory is the number of 1 marks before its group.
+    // A loop, since each entry is held against the sum of all groups before it.
+    pub(crate) fn is_directory(&self) -> bool
+        ensures { result ≡ bytes_eq (directory_of self.now) (directory (marks_of self.now)) }
+    {
+        let count = self.count.numbers;
+        let mut ones = 0;
+        for group in 0..(count + 255) / 256 {
+            if self.entry_at(group) != ones {
+                return false;
+            }
+            let n = (count - 256 * group).min(256);
+            ones += self.group_ones(group, n);
+        }
+        true
+    }
+
+    /// Whether each number has a bit of 1 in its low part or its mark.
+    pub(crate) fn has_no_empty(&self) -> bool
+        ensures { NoEmpty self.now.width.bits self.now.count.numbers self.now.bytes.now result }
+    {
+        (0..self.count.numbers).all(|i| self.low_and_mark(i) != 0)
+    }
+
+    fn low_and_mark(&self, i: usize) -> u64
+        requires { i < self.now.count.numbers }
+        ensures { result ≡ low_with_mark self.now.width.bits self.now.count.numbers self.now.bytes.now i }
+    {
+        self.low_at(i) + self.mark_at(i)
+    }
+
+    /// The bytes behind the sections, those of the list below.
+    pub(crate) fn below(&self) -> &'a [u8]
+        ensures { result.now ≡ below_of self.now }
+    {
+        &self.bytes[self.places.below..]
+    }
 }

@@ -16,10 +16,8 @@ pub fn comes_back<L: NumberList>(
     ensures answer { result ≡ all_back (write_answer (L.NumberList.meaning list.now) numbers.now (length out.old)) }
     ensures bytes { out.new ≡ written (L.NumberList.meaning list.now) numbers.now out.old (is_ok result) }
 {
-    match list.write(numbers, out) {
-        Ok(_) => Ok(is_open(list, out, numbers) && all_there(list, out, numbers)),
-        Err(refusal) => Err(refusal),
-    }
+    list.write(numbers, out)?;
+    Ok(is_open(list, out, numbers) && all_there(list, out, numbers))
 }
 
 fn is_open<L: NumberList>(list: &L, bytes: &[u8], numbers: &[u64]) -> bool
@@ -31,20 +29,5 @@ fn is_open<L: NumberList>(list: &L, bytes: &[u8], numbers: &[u64]) -> bool
 fn all_there<L: NumberList>(list: &L, bytes: &[u8], numbers: &[u64]) -> bool
     ensures { (rest : List ℕ) → Narrow (L.NumberList.meaning list.now).reach numbers.now → length numbers.now ≤ most → bytes.now ≡ (L.NumberList.meaning list.now).string numbers.now ++ rest → result ≡ true }
 {
-    for i in 0..numbers.len() {
-        if !is_there(list, bytes, numbers, i) {
-            return false;
-        }
-    }
-    true
-}
-
-fn is_there<L: NumberList>(list: &L, bytes: &[u8], numbers: &[u64], i: usize) -> bool
-    requires { i < length numbers.now }
-    ensures { (rest : List ℕ) → Narrow (L.NumberList.meaning list.now).reach numbers.now → length numbers.now ≤ most → bytes.now ≡ (L.NumberList.meaning list.now).string numbers.now ++ rest → result ≡ true }
-{
-    match list.read(bytes, numbers.len(), i) {
-        Ok(number) => number == numbers[i],
-        Err(_) => false,
-    }
+    numbers.iter().enumerate().all(|(i, number)| list.read(bytes, numbers.len(), i) == Ok(*number))
 }

@@ -21,5 +21,5 @@ Laid laid (Bare list) bytes m (Parted places) = ⊥
 Laid laid (Over c) bytes m (Same places) = ⊥
 Laid laid (Over c) bytes m (Parted places) =
     Placed c.width.bits m places.places × (below_at c.width.bits m ≤ length bytes)
-    × (places.ones ≡ ones_in c.width.bits bytes m)
+    × (places.ones.numbers ≡ ones_in c.width.bits bytes m)
     × laid c.below (below_in c.width.bits bytes m) (ones_in c.width.bits bytes m) places.below

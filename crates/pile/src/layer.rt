@@ -3,7 +3,7 @@ ghost use Rattle.std.specs.Prelude.{◌≡◌};
 ghost use Rattle.pile.specs.Layers.{layered, Laid};
 ghost use Rattle.pile.specs.LayerSound.{layer_sound, layer_within};
 
-use numlist::{Cut, CutLayout, ListFault, NumberList, Test};
+use numlist::{Count, Cut, CutLayout, ListFault, NumberList, Test};
 use std::alloc::AllocError;
 
 /// A list, or a cut over it.
@@ -65,30 +65,24 @@ impl<L: NumberList> NumberList for Layer<L> {
         }
     }
 
-    fn judge(&self, bytes: &[u8], m: usize) -> Result<usize, ListFault> {
+    fn judge(&self, bytes: &[u8], count: Count) -> Result<usize, ListFault> {
         match self {
-            Layer::Bare(list) => list.judge(bytes, m),
-            Layer::Over(cut) => cut.judge(bytes, m),
+            Layer::Bare(list) => list.judge(bytes, count),
+            Layer::Over(cut) => cut.judge(bytes, count),
         }
     }
 
-    fn has_no_zero(&self, bytes: &[u8], m: usize) -> bool {
+    fn has_no_zero(&self, bytes: &[u8], count: Count) -> bool {
         match self {
-            Layer::Bare(list) => list.has_no_zero(bytes, m),
-            Layer::Over(cut) => cut.has_no_zero(bytes, m),
+            Layer::Bare(list) => list.has_no_zero(bytes, count),
+            Layer::Over(cut) => cut.has_no_zero(bytes, count),
         }
     }
 
-    fn layout(&self, bytes: &[u8], m: usize) -> Result<LayerLayout<L::Layout>, ListFault> {
+    fn layout(&self, bytes: &[u8], count: Count) -> Result<LayerLayout<L::Layout>, ListFault> {
         match self {
-            Layer::Bare(list) => match list.layout(bytes, m) {
-                Ok(places) => Ok(LayerLayout::Same(places)),
-                Err(fault) => Err(fault),
-            },
-            Layer::Over(cut) => match cut.layout(bytes, m) {
-                Ok(places) => Ok(LayerLayout::Parted(places)),
-                Err(fault) => Err(fault),
-            },
+            Layer::Bare(list) => list.layout(bytes, count).map(LayerLayout::Same),
+            Layer::Over(cut) => cut.layout(bytes, count).map(LayerLayout::Parted),
         }
     }
 
@@ -96,16 +90,13 @@ impl<L: NumberList> NumberList for Layer<L> {
         &self,
         layout: &LayerLayout<L::Layout>,
         bytes: &[u8],
-        m: usize,
+        count: Count,
         i: usize,
     ) -> Result<u64, ListFault> {
         match (self, layout) {
-            (Layer::Bare(list), LayerLayout::Same(places)) => list.read_at(places, bytes, m, i),
-            (Layer::Over(cut), LayerLayout::Parted(places)) => cut.read_at(places, bytes, m, i),
-            _ => Err(ListFault {
-                level: 0,
-                test: Test::TooFew,
-            }),
+            (Layer::Bare(list), LayerLayout::Same(places)) => list.read_at(places, bytes, count, i),
+            (Layer::Over(cut), LayerLayout::Parted(places)) => cut.read_at(places, bytes, count, i),
+            _ => Err(ListFault::here(Test::TooFew)),
         }
     }
 }

@@ -9,8 +9,8 @@ use Rattle.numlist.proofs.CutPuts.{parts_below, part_behind, put_behind, own_sec
 use Rattle.numlist.specs.Highs.{narrow_parts}
 use Rattle.numlist.proofs.cut.CutNumberList.put.Goals as goal
 
-pub place-places-requires : goal.place-places-requires
-place-places-requires g c = omega (arith, c.count.ensures, above_few c.args.skip c.args.numbers.now)
+pub invariant_of-new : goal.invariant_of-new
+invariant_of-new g c = omega (arith, c.count.ensures, above_few c.args.skip c.args.numbers.now)
 
 pub returns-then-out-at : goal.returns-then-out-at
 returns-then-out-at g c narrow within =
@@ -18,7 +18,7 @@ returns-then-out-at g c narrow within =
     let L = g.L.NumberList.meaning c.args.self.now.below in
     let ys = above c.args.skip c.args.numbers.now in
     let long = sections_long b (length ys) (lows b ys) (marks b ys) (L.string (parts b ys)) (length-map ys (λ x. x % 2 ^ b)) (length-map {B = ℕ} ys (λ x. cond (marked b x) 1 0)) in
-    let at = c.place-places.ensures.its_below ∙ ap (below_at b) c.count.ensures in
+    let at = c.new-places.ensures.its_below ∙ ap (below_at b) c.count.ensures in
     absurd (omega (arith, long, at, within, c.if-out-at.true))
 
 pub returns : goal.returns
@@ -35,11 +35,11 @@ returns g c narrow within =
     let count-ms : length (marks b ys) ≡ m = length-map {B = ℕ} ys (λ x. cond (marked b x) 1 0) in
     let string = L.string (parts b ys) in
     let long = sections_long b m ls ms string count-ls count-ms in
-    let placed = c.place-places.ensures in
+    let placed = c.new-places.ensures in
     let counted = c.count.ensures in
-    let at-marks : marks_at b m ≡ c.place-places.result.marks = sym (placed.its_marks ∙ ap (marks_at b) counted) in
-    let at-directory : directory_at b m ≡ c.place-places.result.directory = sym (placed.its_directory ∙ ap (directory_at b) counted) in
-    let at-below : below_at b m ≡ c.place-places.result.below = sym (placed.its_below ∙ ap (below_at b) counted) in
+    let at-marks : marks_at b m ≡ c.new-places.result.marks = sym (placed.its_marks ∙ ap (marks_at b) counted) in
+    let at-directory : directory_at b m ≡ c.new-places.result.directory = sym (placed.its_directory ∙ ap (directory_at b) counted) in
+    let at-below : below_at b m ≡ c.new-places.result.below = sym (placed.its_below ∙ ap (below_at b) counted) in
     let R1 = drop (room b m) out in
     let R2 = drop (room 1 m) R1 in
     let R3 = drop (4 * entries m) R2 in
@@ -54,7 +54,7 @@ returns g c narrow within =
     let directory-done = c.put_directory_at.ensures (A ++ B) R2 (marks-done ∙ sym (append_assoc A B R2)) (marks_long b m ls ms count-ls count-ms ∙ at-directory) room3 in
     let whole = directory-done ∙ sym (append_assoc (A ++ B) C R3) in
     let own = own_long b m ls ms count-ls count-ms ∙ at-below in
-    let at = c.place-places.result.below in
+    let at = c.new-places.result.below in
     let rest = part_behind at c.put_directory_at.new.out (own_sections b m ls ms count-ls count-ms) R3 whole own ∙ behind_own b m ls ms count-ls count-ms out in
     let numbers : above c.deeper.result xs ≡ parts b ys = ap (λ k. above k xs) c.deeper.ensures.value ∙ sym (parts_below b c.args.skip xs c.args.self.now.width.low (are_words xs c.type_inv.numbers)) in
     let fits : length (L.string (parts b ys)) ≤ length (drop (below_at b m) out) = omega (arith, long, within, length-drop (below_at b m) out) in

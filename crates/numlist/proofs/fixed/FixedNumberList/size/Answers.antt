@@ -6,8 +6,8 @@ use Rattle.numlist.specs.Parts.{above}
 use Rattle.numlist.proofs.Aboves.{above_few}
 use Rattle.numlist.proofs.fixed.FixedNumberList.size.Goals as goal
 
-pub room-requires : goal.room-requires
-room-requires c = omega (arith, c.count.ensures, above_few c.args.skip c.args.numbers.now)
+pub invariant_of-room : goal.invariant_of-room
+invariant_of-room c = omega (arith, c.count.ensures, above_few c.args.skip c.args.numbers.now)
 
 pub returns : goal.returns
 returns c =

@@ -9,13 +9,13 @@ use Rattle.numlist.specs.Cuts.{marks_at, directory_at, marks_in, directory_in}
 use Rattle.numlist.specs.Parts.{entries, directory}
 use Rattle.numlist.specs.Directories.{length-directory, sum-narrow}
 use Rattle.numlist.proofs.Marks.{get_or-directory, next_group}
-use Rattle.numlist.proofs.places.is_directory.Goals as goal
+use Rattle.numlist.proofs.places.Sections.is_directory.Goals as goal
 
 pub returns-then-entry_at-ones : goal.returns-then-entry_at-ones
 returns-then-entry_at-ones c =
-    let b = c.args.width.bits in
-    let m = c.args.count in
-    let bytes = c.args.bytes.now in
+    let b = c.args.self.now.width.bits in
+    let m = c.args.self.now.count.numbers in
+    let bytes = c.args.self.now.bytes.now in
     let ms = marks_in b bytes m in
     let g = c.loop-group.group in
     let inside : g < entries (length ms) = omega (arith, length-unpacked 1 m (drop (marks_at b m) bytes)) in
@@ -28,9 +28,9 @@ returns-then-entry_at-ones c =
 
 pub loop-group-preserved : goal.loop-group-preserved
 loop-group-preserved c =
-    let b = c.args.width.bits in
-    let m = c.args.count in
-    let bytes = c.args.bytes.now in
+    let b = c.args.self.now.width.bits in
+    let m = c.args.self.now.count.numbers in
+    let bytes = c.args.self.now.bytes.now in
     let ms = marks_in b bytes m in
     let g = c.loop-group.group in
     let long = length-unpacked 1 m (drop (marks_at b m) bytes) in
@@ -47,9 +47,9 @@ loop-group-preserved c =
 
 pub returns : goal.returns
 returns c =
-    let b = c.args.width.bits in
-    let m = c.args.count in
-    let bytes = c.args.bytes.now in
+    let b = c.args.self.now.width.bits in
+    let m = c.args.self.now.count.numbers in
+    let bytes = c.args.self.now.bytes.now in
     let ms = marks_in b bytes m in
     let long = length-unpacked 32 (entries m) (drop (directory_at b m) bytes) in
     let same = long ∙ sym (length-directory ms ∙ ap entries (length-unpacked 1 m (drop (marks_at b m) bytes))) in
