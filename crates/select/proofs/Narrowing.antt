@@ -1,33 +1,21 @@
 -- What is left is a side of the pivot, or the place of an element level with it. Assumes nothing.
-use Rattle.std.proofs.Common.{◌≡◌, ℕ, ◌+◌, ◌-◌, ◌<◌, ◌≤◌, Bool, true, false, not, List, length, get_or, sym, ap, ◌∙◌, ⊎_elim, arith}
+use Rattle.std.proofs.Common.{◌≡◌, ℕ, ◌+◌, ◌-◌, ◌<◌, ◌≤◌, Bool, true, false, not, List, length, get_or, sym, ◌∙◌, ⊎_elim, arith}
 use borrow.Rule.Slice.PartMut.{mid_of, put_mid}
 use Rattle.std.specs.List.{All}
 use Rattle.std.specs.List.Sorted.{IsPermutation}
 use Rattle.std.proofs.lemmas.List.{get_or_read}
 use Rattle.std.proofs.lemmas.List.Sorted.{length_permutation, All-permutation}
-use Rattle.std.proofs.lemmas.Bool.{cases_lt, cases_eq, cases_Bool, both_ways, not-true}
+use Rattle.std.proofs.lemmas.Bool.{cases_lt, not-true}
+use Rattle.std.proofs.lemmas.Grind.{common_steps}
 use Rattle.select.specs.Orders.{TotalOrders}
 use Rattle.select.specs.Divisions.{Parted, Halved, Divided, Narrowed}
 use Rattle.select.specs.declared.element.Axis.{Axis}
 use Rattle.select.proofs.Places.{length-mid, length_put, get_or-mid, get_or-put_below, get_or-put_inside}
 
 module _ {E : Type 0} {before : Axis → E → E → Bool} (orders : TotalOrders before) (axis : Axis) where
-  not_behind : (a p : E) → before axis a p ≡ true → before axis p a ≡ false
-  not_behind a p ap =
-      ⊎_elim
-      (λ pa. absurd (both_ways _ (orders.irreflexive axis a) (orders.transitive axis a p a ap pa)))
-      (λ pa. pa)
-      (cases_Bool (before axis p a))
-
   -- what is not behind the pivot is not behind what is not before the pivot
   across : (a b p : E) → before axis p a ≡ false → before axis b p ≡ false → before axis b a ≡ false
-  across a b p pa bp = ⊎_elim (λ ba. absurd (⊎_elim (through ba) (level ba) (cases_Bool (before axis a p)))) (λ ba. ba) (cases_Bool (before axis b a))
-    where
-      through : before axis b a ≡ true → before axis a p ≡ true → ⊥
-      through ba ap = both_ways _ bp (orders.transitive axis b a p ba ap)
-
-      level : before axis b a ≡ true → before axis a p ≡ false → ⊥
-      level ba ap' = both_ways _ bp (ap (before axis b) (sym (orders.same axis a p ap' pa)) ∙ ba)
+  across a b p pa bp = grind (arith, common_steps, orders.transitive axis b a p, orders.same axis a p)
 
   -- a slice is divided at a border where none in front of it is behind the pivot, and none from it on is before the pivot
   divided_by :
@@ -39,18 +27,10 @@ module _ {E : Type 0} {before : Axis → E → E → Bool} (orders : TotalOrders
 
   module _ {ys : List E} {middle : ℕ} (at : ℕ) (h : Halved (before axis) middle ys) where
     small : (k : ℕ) (d : E) → k ≤ middle → before axis (get_or ys middle d) (get_or ys k d) ≡ false
-    small k d m =
-        ⊎_elim
-        (λ q. ap (λ i. before axis (get_or ys middle d) (get_or ys i d)) q ∙ orders.irreflexive axis (get_or ys middle d))
-        (λ n. not_behind (get_or ys k d) (get_or ys middle d) (h.smaller k d (omega (arith, n))))
-        (cases_eq k middle)
+    small k d m = grind (arith, common_steps, orders.irreflexive axis, orders.transitive axis, h.smaller k d)
 
     great : (k : ℕ) (d : E) → middle ≤ k → k < length ys → before axis (get_or ys k d) (get_or ys middle d) ≡ false
-    great k d m g =
-        ⊎_elim
-        (λ q. ap (λ i. before axis (get_or ys i d) (get_or ys middle d)) q ∙ orders.irreflexive axis (get_or ys middle d))
-        (λ n. h.others k d (omega (arith, n)) g)
-        (cases_eq k middle)
+    great k d m g = grind (arith, common_steps, orders.irreflexive axis, h.others k d)
 
     -- the elements level with the pivot are gathered above it
     module _ {rest : List E} {level : ℕ} {answers : E → Bool → Type 0} (pivot : E) (is : pivot ≡ get_or ys middle pivot)

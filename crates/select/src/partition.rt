@@ -6,7 +6,8 @@ ghost use Rattle.select.specs.Divisions.{Parted, Halved};
 
 use crate::{Axis, Element};
 
-/// Two elements trade places. Both are written in any case: `swap` tests the places, which costs more than the writes.
+/// Two elements trade places. Both are written in any case: `swap` tests the places first, and arranging by it takes a third
+/// longer.
 fn exchange<E: Element>(part: &mut [E], a: usize, b: usize)
     requires { (a < length part.old) × (b < length part.old) }
     ensures { part.new ≡ swap part.old a b }
@@ -17,7 +18,7 @@ fn exchange<E: Element>(part: &mut [E], a: usize, b: usize)
 }
 
 /// Gathers the elements that pass a test at the front, and tells where the others begin.
-/// Every turn does the same writes, and the test only moves the border: nothing here can be guessed wrong.
+/// Every turn does the same writes at two places, and the test only moves the border: nothing here can be guessed wrong.
 pub fn gather<E: Element, F: Fn(E) -> bool>(part: &mut [E], is_front: F) -> usize
     requires { F.IsAlwaysCallable is_front }
     ensures kept { IsPermutation part.old part.new }

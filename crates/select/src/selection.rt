@@ -20,6 +20,7 @@ const SAMPLED: usize = 1_024;
 const MOST_BAD: usize = 8;
 
 /// Brings to place `at` the element that order puts there: none to its left is greater and none to its right is smaller.
+/// By `select_nth_unstable_by` of the library, arranging random cells takes half as long again.
 pub fn select<E: Element>(axis: Axis, part: &mut [E], at: usize)
     ensures { Selected (E.Element.before axis) part.old at part.new }
 {
@@ -43,14 +44,9 @@ fn settle<E: Element>(axis: Axis, part: &mut [E], at: usize, bad: usize)
     }
     let place = choose(axis, part, at, bad);
     let left = narrow(axis, part, at, place);
-    let is_bad = left.len() > count / 8 * 7;
+    let bad = bad.saturating_add(usize::from(left.len() > count / 8 * 7));
     let at = at - left.start;
-    settle(
-        axis,
-        &mut part[left],
-        at,
-        bad.saturating_add(usize::from(is_bad)),
-    );
+    settle(axis, &mut part[left], at, bad);
 }
 
 /// The place of a pivot. It may move elements.
