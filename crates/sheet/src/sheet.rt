@@ -11,7 +11,8 @@ mod tree;
 const MOST_HITS: usize = 1_048_576;
 
 /// Cells that a caller lends. The first `held` of them are hits, and the content of the others is of no account. The memory
-/// is the caller's and never grows, so it is a slice and a count.
+/// is the caller's and never grows, so it is a slice and a count. Contracts tell of every place, those behind the hits too,
+/// and of whose memory it is: so they see these fields, and no model that would forget some.
 #[derive(Drop)]
 pub struct Lent<'a> {
     cells: &'a mut [Cell],
