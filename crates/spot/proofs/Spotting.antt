@@ -1,9 +1,9 @@
 -- Writing the spot of a tree: what is answered and what is left. Assumes nothing.
-use Rattle.std.proofs.Common.{◌≡◌, ℕ, ◌+◌, ◌-◌, ◌*◌, ◌%◌, ◌<◌, ◌≤◌, true, List, [], ◌∷◌, ◌++◌, length, take, drop, is_ok, Ok, Err, sym, refl, ap, ◌∙◌, mod-eq_of_lt, mul-le-mul, arith, length-append, length-take-le}
+use Rattle.std.proofs.Common.{◌≡◌, ℕ, ◌+◌, ◌-◌, ◌*◌, ◌<◌, ◌≤◌, true, false, List, [], ◌∷◌, ◌++◌, length, take, drop, is_ok, Ok, Err, Result, sym, refl, ap, ◌∙◌, mul-le-mul, arith, length-append, length-take-le}
 use borrow.Rule.Slice.PartMut.{put_mid}
 use Rattle.std.proofs.lemmas.Bool.{le-leb, lt-leb}
-use Rattle.grid.specs.Sides.{allowed}
 use Rattle.grid.specs.declared.cell.Cell.{Cell}
+use Rattle.grid.specs.declared.grid.Grid.{Grid}
 use Rattle.bits.specs.Packing.{Narrow}
 use Rattle.bits.proofs.Packings.{length-packed}
 use Rattle.cellcode.specs.Codes.{CodeLaws}
@@ -17,22 +17,32 @@ use Rattle.spot.specs.Spots.{Making, Wide, spot, trailer, trailer_bytes, code_by
 use Rattle.spot.specs.declared.refusal.PackRefused.{PackRefused}
 use Rattle.spot.specs.declared.trailer.Trailer.{Trailer}
 use Rattle.spot.proofs.CodeLists.{AllOn, fits, root-on, narrower}
+use Rattle.spot.proofs.Sheets.{side_fine}
 use Rattle.spot.proofs.Writing.{written-length, refused-length, behind_list, spot-written}
 
-module _ (M : Making) (wide : Wide M) (laws : CodeLaws M.code) (sound : Sound M.list)
-    (side : ℕ) (low : 1 ≤ side) (fine : allowed side ≡ true)
-    (tree : List Cell) (few : length tree ≤ most) (placed : AllOn side tree) where
+-- what is known where a tree is packed: the laws of the make, and that the cells are few, and all on the grid
+pub record Packable (M : Making) (grid : Grid) (tree : List Cell) : Type 0 where
+  pub wide : Wide M
+  pub laws : CodeLaws M.code
+  pub sound : Sound M.list
+  pub few : length tree ≤ most
+  pub placed : AllOn grid.side tree
+
+module _ (M : Making) (grid : Grid) (tree : List Cell) (p : Packable M grid tree) where
+  abbrev side : ℕ
+  side = grid.side
+
   abbrev cs : List ℕ
   cs = codes (M.code side) tree
 
   cs_fit : (length cs ≡ length tree) × Narrow 42 cs
-  cs_fit = fits M.code laws side fine (length tree) (root tree) tree (omega arith) (root-on side tree low placed) placed
+  cs_fit = fits M.code p.laws side (side_fine grid) (length tree) (root tree) tree (omega arith) (root-on side tree grid.low p.placed) p.placed
 
   cs_small : narrow M.list.reach cs ≡ true
-  cs_small = narrower 42 M.list.reach cs wide.0 cs_fit.1
+  cs_small = narrower 42 M.list.reach cs p.wide.0 cs_fit.1
 
   cs_few : length cs ≤ most
-  cs_few = omega (arith, cs_fit.0, few)
+  cs_few = omega (arith, cs_fit.0, p.few)
 
   trailer_long : (t : Trailer) → length (trailer_bytes t) ≡ 24
   trailer_long t = length-packed 32 (t.length ∷ t.hits ∷ t.root.x ∷ t.root.y ∷ t.side ∷ (t.make + 65536 * edition) ∷ [])
@@ -43,7 +53,7 @@ module _ (M : Making) (wide : Wide M) (laws : CodeLaws M.code) (sound : Sound M.
   -- a spot of n hits has at most (n + 16) × reach bytes and the trailer
   pub spot_bound : length (spot M side tree) ≤ (length tree + 16) * M.list.reach + 24
   spot_bound =
-      let bound = sound.small cs (narrow-true M.list.reach cs cs_small) cs_few in
+      let bound = p.sound.small cs (narrow-true M.list.reach cs cs_small) cs_few in
       let same : (length cs + 16) * M.list.reach ≡ (length tree + 16) * M.list.reach = ap (λ n. (n + 16) * M.list.reach) cs_fit.0 in
       omega (arith, bound, same, spot_long)
 
@@ -54,9 +64,9 @@ module _ (M : Making) (wide : Wide M) (laws : CodeLaws M.code) (sound : Sound M.
   -- the list has less than 2^32 bytes
   pub list_short : length (code_bytes M side tree) < 4294967296
   list_short =
-      let bound = sound.small cs (narrow-true M.list.reach cs cs_small) cs_few in
+      let bound = p.sound.small cs (narrow-true M.list.reach cs cs_small) cs_few in
       let few-enough : length cs + 16 ≤ 1048592 = omega (arith, cs_few) in
-      let most_bytes : (length cs + 16) * M.list.reach ≤ 1048592 * 64 = mul-le-mul few-enough wide.1 in
+      let most_bytes : (length cs + 16) * M.list.reach ≤ 1048592 * 64 = mul-le-mul few-enough p.wide.1 in
       omega (arith, bound, most_bytes)
 
   pub no_room : (bytes : ℕ) → bytes < length (code_bytes M side tree) + 24 → Err PackRefused.NoRoom ≡ spot_answer (spot M side tree) bytes
@@ -68,28 +78,24 @@ module _ (M : Making) (wide : Wide M) (laws : CodeLaws M.code) (sound : Sound M.
       ap Ok long ∙ sym (rw (le-leb (length (spot M side tree)) bytes (omega (arith, long))) refl)
 
   -- the list of the codes is written, or is not, into all bytes but the last 24
-  module _ (out ns : List ℕ) (is : ns ≡ cs) (room : 24 ≤ length out) where
-    front_long : length (take (length out - 24) out) ≡ length out - 24
-    front_long = length-take-le (length out - 24) out (omega arith)
+  module _ (out ns : List ℕ) (is : ns ≡ cs) (front : ℕ) (behind : front + 24 ≡ length out) where
+    front_long : length (take front out) ≡ front
+    front_long = length-take-le front out (omega arith)
 
-    pub list_written : (n : ℕ) → Ok n ≡ write_answer M.list ns (length (take (length out - 24) out)) → (n ≡ length (code_bytes M side tree)) × (n + 24 ≤ length out)
+    answer_is : (r : Result ℕ WriteRefused) → r ≡ write_answer M.list ns (length (take front out)) → r ≡ write_answer M.list cs front
+    answer_is r e = e ∙ (λ i. write_answer M.list (is i) (front_long i))
+
+    pub list_written : (n : ℕ) → Ok n ≡ write_answer M.list ns (length (take front out)) → (n ≡ length (code_bytes M side tree)) × (n + 24 ≤ length out)
     list_written n e =
-        let told = written-length M.list cs (length (take (length out - 24) out)) cs_few cs_small n (e ∙ ap (λ l. write_answer M.list l (length (take (length out - 24) out))) is) in
-        (told.0, omega (arith, told.0, told.1, front_long))
+        let told = written-length M.list cs front cs_few cs_small n (answer_is (Ok n) e) in
+        (told.0, omega (arith, told.0, told.1))
 
-    pub list_refused : (r : WriteRefused) → Err r ≡ write_answer M.list ns (length (take (length out - 24) out)) → length out < length (code_bytes M side tree) + 24
-    list_refused r e =
-        omega (arith, front_long, refused-length M.list cs (length (take (length out - 24) out)) cs_few cs_small r (e ∙ ap (λ l. write_answer M.list l (length (take (length out - 24) out))) is))
+    pub list_refused : (r : Result ℕ WriteRefused) → false ≡ is_ok r → r ≡ write_answer M.list ns (length (take front out)) → length out < length (code_bytes M side tree) + 24
+    list_refused r refused e = omega (arith, refused-length M.list cs front cs_few cs_small r refused (answer_is r e))
 
     -- the trailer that is written is the tree's
-    pub trailer-is : (n : ℕ) (t : Trailer) → n ≡ length (code_bytes M side tree) → t.length ≡ n % 4294967296 → t.hits ≡ length tree → t.root ≡ root tree → t.side ≡ side → t.make ≡ M.number → t ≡ trailer M side tree
-    trailer-is n t long l h r s m =
-        let short : n < 4294967296 = omega (arith, list_short, long) in
-        let exact : t.length ≡ length (code_bytes M side tree) = l ∙ mod-eq_of_lt short ∙ long in
-        λ i. record { length = exact i; hits = h i; root = r i; side = s i; make = m i }
-
-    abbrev front : ℕ
-    front = length out - 24
+    pub trailer-is : (n : ℕ) (t : Trailer) → n ≡ length (code_bytes M side tree) → t.length ≡ n → t.hits ≡ length tree → t.root ≡ root tree → t.side ≡ side → t.make ≡ M.number → t ≡ trailer M side tree
+    trailer-is n t long l h r s m = λ i. record { length = (l ∙ long) i; hits = h i; root = r i; side = s i; make = m i }
 
     abbrev string : List ℕ
     string = code_bytes M side tree

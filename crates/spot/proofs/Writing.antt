@@ -1,9 +1,9 @@
 -- A list and then a trailer, written one after the other, are a spot. Assumes nothing.
-use Rattle.std.proofs.Common.{◌≡◌, ℕ, ◌-◌, ◌<◌, ◌≤◌, true, List, ◌++◌, length, take, drop, Ok, Err, Result, sym, refl, ap, ◌∙◌, ⊎_elim, arith, length-append, length-drop, take-append-drop, length-take-le, drop-drop}
+use Rattle.std.proofs.Common.{◌≡◌, ℕ, ◌-◌, ◌<◌, ◌≤◌, true, false, List, ◌++◌, length, take, drop, is_ok, Ok, Err, Result, MatchResult, sym, refl, ap, ◌∙◌, ⊎_elim, arith, length-append, length-drop, take-append-drop, length-take-le, drop-drop}
 use borrow.Rule.Slice.PartMut.{put_mid}
 use lib.Seq.{drop-append-le}
 use Rattle.std.proofs.lemmas.List.{append-nil, append_assoc, take_at, drop_at, take_rest, drop_all}
-use Rattle.std.proofs.lemmas.Bool.{cases_lt}
+use Rattle.std.proofs.lemmas.Bool.{cases_lt, true≢false}
 use Rattle.numlist.specs.Calls.{narrow, write_answer}
 use Rattle.numlist.specs.Lists.{Meaning, most}
 use Rattle.numlist.specs.declared.refusal.WriteRefused.{WriteRefused}
@@ -15,6 +15,11 @@ ok-is a b e = cc
 never : (a : ℕ) (r : WriteRefused) → ◌≡◌ {A = Result ℕ WriteRefused} (Ok a) (Err r) → ⊥
 never a r e = let z : ◌≡◌ {A = ℕ} 0 1 = cc in omega arith
 
+-- a result that is handed on with another error: an accepted one is the same
+pub sent : {E : Type 0} (D : Type 0) (r : Result ℕ E) (n : ℕ) → MatchResult r (λ x. ◌≡◌ {A = Result ℕ D} (Ok n) (Ok x)) (λ e. ⊥) → r ≡ Ok n
+sent D (Ok x) n same = cc
+sent D (Err e) n other = absurd other
+
 -- numbers that are few and small are written exactly where there is room for their string
 module _ (L : Meaning) (xs : List ℕ) (bytes : ℕ) (few : length xs ≤ most) (small : narrow L.reach xs ≡ true) where
   pub written-length : (n : ℕ) → Ok n ≡ write_answer L xs bytes → (n ≡ length (L.string xs)) × (length (L.string xs) ≤ bytes)
@@ -24,8 +29,9 @@ module _ (L : Meaning) (xs : List ℕ) (bytes : ℕ) (few : length xs ≤ most) 
       (λ fits. (ok-is n (length (L.string xs)) (e ∙ sym (write_fits L xs bytes few small fits)), fits))
       (cases_lt bytes (length (L.string xs)))
 
-  pub refused-length : (r : WriteRefused) → Err r ≡ write_answer L xs bytes → bytes < length (L.string xs)
-  refused-length r e =
+  pub refused-length : (r : Result ℕ WriteRefused) → false ≡ is_ok r → r ≡ write_answer L xs bytes → bytes < length (L.string xs)
+  refused-length (Ok n) refused e = absurd (true≢false (sym refused))
+  refused-length (Err r) refused e =
       ⊎_elim
       (λ short. short)
       (λ fits. absurd (never (length (L.string xs)) r (write_fits L xs bytes few small fits ∙ sym e)))

@@ -21,9 +21,9 @@ pub record Making : Type 0 where
 abbrev pub making : (ℕ → Cell → Cell → ℕ) → Meaning → ℕ → Making
 making code list number = record { code = code; list = list; number = number }
 
--- what a make of these types means, by what its code and its list mean
-abbrev pub meant : {C L : Type 0} → (C → ℕ → Cell → Cell → ℕ) → (L → Meaning) → Make C L → Making
-meant code list make = making (code make.code) (list make.list) make.number
+-- what a make means, by what its code and its list mean
+abbrev pub meant : {C L Layout : Type 0} {codes : _} {lists : _} → Make C L Layout codes lists → Making
+meant {codes = codes} {lists = lists} make = making (codes.code make.code) (lists.meaning make.list) make.number
 
 -- every code has at most 42 bits, and the list reaches as far
 abbrev pub Wide : Making → Type 0

@@ -10,10 +10,8 @@ use grid::{Cell, Grid};
 pub(crate) fn root(tree: &[Cell]) -> Cell
     ensures { result ≡ root tree.now }
 {
-    if tree.is_empty() {
-        return Cell { x: 0, y: 0 };
-    }
-    tree[(tree.len() - 1) / 2]
+    let middle = tree.len().saturating_sub(1) / 2;
+    tree.get(middle).copied().unwrap_or(Cell { x: 0, y: 0 })
 }
 
 /// Puts the code of each cell of a part in its place: that of the middle against the parent, those of both sides against
@@ -36,22 +34,10 @@ pub(crate) fn put_codes<C: CellCode>(
     }
     let middle = (part.len() - 1) / 2;
     let cut = part[middle];
-    out[middle] = number(code, grid, parent, cut);
+    out[middle] = code.number(grid, parent, cut);
     if part.len() < 2 {
         return;
     }
     put_codes(code, grid, cut, &part[..middle], &mut out[..middle]);
     put_codes(code, grid, cut, &part[middle + 1..], &mut out[middle + 1..]);
-}
-
-/// The number of a cell on the grid from a parent on it.
-fn number<C: CellCode>(code: &C, grid: Grid, parent: Cell, cell: Cell) -> u64
-    requires parent { on grid.side parent ≡ true }
-    requires cell { on grid.side cell ≡ true }
-    ensures { result ≡ C.CellCode.code code.now grid.side parent cell }
-{
-    match code.encode(grid, parent, cell) {
-        Ok(number) => number,
-        Err(_) => 0,
-    }
 }

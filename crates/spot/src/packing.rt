@@ -4,7 +4,7 @@ ghost use Rattle.grid.specs.Cells.{on, origin};
 ghost use Rattle.sheet.specs.Arranged.{Keeps};
 ghost use Rattle.sheet.specs.Memory.{hits, tally};
 ghost use Rattle.spot.specs.Packs.{Packs, spot_answer, left_by};
-ghost use Rattle.spot.specs.Spots.{Wide, meant, spot};
+ghost use Rattle.spot.specs.Spots.{meant, spot};
 
 use crate::codes::{put_codes, root};
 use crate::{Make, PackRefused, TRAILER_BYTES, Trailer};
@@ -22,8 +22,8 @@ pub fn pack<C: CellCode, L: NumberList>(
     scratch: &mut [u64],
     out: &mut [u8],
 ) -> Result<usize, PackRefused>
-    ensures packs { Wide (meant C.CellCode.code L.NumberList.meaning make.now) → Packs (meant C.CellCode.code L.NumberList.meaning make.now) sheet.old.grid.side (tally (hits sheet.old.lent)) (length scratch.old) out.old out.new result }
-    ensures fits { Wide (meant C.CellCode.code L.NumberList.meaning make.now) → length (hits sheet.old.lent) ≤ length scratch.old → (length (hits sheet.old.lent) + 16) * (L.NumberList.meaning make.now.list).reach + 24 ≤ length out.old → is_ok result ≡ true }
+    ensures packs { Packs (meant make.now) sheet.old.grid.side (tally (hits sheet.old.lent)) (length scratch.old) out.old out.new result }
+    ensures fits { length (hits sheet.old.lent) ≤ length scratch.old → (length (hits sheet.old.lent) + 16) * (L.NumberList.meaning make.now.list).reach + 24 ≤ length out.old → is_ok result ≡ true }
     ensures keeps { Keeps sheet.old.lent sheet.new.lent }
     ensures grid { sheet.new.grid ≡ sheet.old.grid }
 {
@@ -46,27 +46,26 @@ fn write_spot<C: CellCode, L: NumberList>(
     requires long { length codes.old ≡ length tree.now }
     requires few { length tree.now ≤ 1048576 }
     requires placed { (k : ℕ) → k < length tree.now → on grid.side (slice_index_or tree.now k origin) ≡ true }
-    ensures answer { Wide (meant C.CellCode.code L.NumberList.meaning make.now) → result ≡ spot_answer (spot (meant C.CellCode.code L.NumberList.meaning make.now) grid.side tree.now) (length out.old) }
-    ensures bytes { Wide (meant C.CellCode.code L.NumberList.meaning make.now) → out.new ≡ left_by (spot (meant C.CellCode.code L.NumberList.meaning make.now) grid.side tree.now) out.old (is_ok result) }
+    ensures answer { result ≡ spot_answer (spot (meant make.now) grid.side tree.now) (length out.old) }
+    ensures bytes { out.new ≡ left_by (spot (meant make.now) grid.side tree.now) out.old (is_ok result) }
 {
     let root = root(tree);
     put_codes(&make.code, grid, root, tree, codes);
-    if out.len() < TRAILER_BYTES {
-        return Err(PackRefused::NoRoom);
-    }
-    let room = out.len() - TRAILER_BYTES;
-    match make.list.write(codes, &mut out[..room]) {
-        Ok(length) => {
-            let trailer = Trailer {
-                length: (length % 4_294_967_296) as u32,
-                hits: tree.len() as u32,
-                root,
-                side: grid.side(),
-                make: make.number,
-            };
-            trailer.put(&mut out[length..]);
-            Ok(length + TRAILER_BYTES)
-        }
-        Err(_) => Err(PackRefused::NoRoom),
-    }
+    let room = out
+        .len()
+        .checked_sub(TRAILER_BYTES)
+        .ok_or(PackRefused::NoRoom)?;
+    let length = make
+        .list
+        .write(codes, &mut out[..room])
+        .map_err(|_| PackRefused::NoRoom)?;
+    let trailer = Trailer {
+        length: length as u32,
+        hits: tree.len() as u32,
+        root,
+        side: grid.side(),
+        make: make.number,
+    };
+    trailer.put(&mut out[length..]);
+    Ok(length + TRAILER_BYTES)
 }

@@ -3,20 +3,20 @@ ghost use Rattle.std.specs.Prelude.{◌≡◌};
 ghost use Rattle.spot.specs.Refusals.{make_number, pack_number};
 
 /// The list does not reach 42 bits, or reaches more than 64.
-#[derive(Clone, Copy, Debug)]
+#[derive(Clone, Copy, Debug, PartialEq, Eq)]
 pub struct MakeRefused;
 
-impl MakeRefused {
-    /// The number of this refusal.
-    pub fn number(self) -> u8
-        ensures { result ≡ make_number self }
-    {
+/// The number by which this refusal is known.
+impl From<MakeRefused> for u8 {
+    ghost from_gives = { λ refused n. n ≡ make_number refused };
+
+    fn from(_refused: MakeRefused) -> u8 {
         11
     }
 }
 
 /// Why nothing is packed.
-#[derive(Clone, Copy, Debug)]
+#[derive(Clone, Copy, Debug, PartialEq, Eq)]
 pub enum PackRefused {
     /// The scratch for the codes is shorter than the hits held.
     NoScratch,
@@ -24,12 +24,12 @@ pub enum PackRefused {
     NoRoom,
 }
 
-impl PackRefused {
-    /// The number of this refusal.
-    pub fn number(self) -> u8
-        ensures { result ≡ pack_number self }
-    {
-        match self {
+/// The number by which a refusal is known.
+impl From<PackRefused> for u8 {
+    ghost from_gives = { λ refused n. n ≡ pack_number refused };
+
+    fn from(refused: PackRefused) -> u8 {
+        match refused {
             PackRefused::NoScratch => 6,
             PackRefused::NoRoom => 5,
         }

@@ -3,7 +3,7 @@ ghost use Rattle.std.specs.Prelude.{◌≡◌, map, length};
 ghost use Rattle.sheet.specs.Counts.{counts, answers};
 ghost use Rattle.sheet.specs.Runs.{call_of, answer_of};
 ghost use Rattle.spot.specs.Packs.{Packs, SameBytes};
-ghost use Rattle.spot.specs.Spots.{Wide, meant};
+ghost use Rattle.spot.specs.Spots.{meant};
 
 use crate::{Make, PackRefused, pack};
 use cellcode::CellCode;
@@ -21,10 +21,10 @@ pub fn run_and_pack<C: CellCode, L: NumberList>(
     scratch: &mut [u64],
     out: &mut [u8],
 ) -> Result<usize, PackRefused>
-    ensures packs { Wide (meant C.CellCode.code L.NumberList.meaning make.now) → Packs (meant C.CellCode.code L.NumberList.meaning make.now) grid.side (counts grid.side (length cells.old) (map call_of journal.old)) (length scratch.old) out.old out.new result }
+    ensures packs { Packs (meant make.now) grid.side (counts grid.side (length cells.old) (map call_of journal.old)) (length scratch.old) out.old out.new result }
     ensures answers { map answer_of journal.new ≡ answers grid.side (length cells.old) (map call_of journal.old) }
     ensures calls { map call_of journal.new ≡ map call_of journal.old }
-    ensures one { SameBytes (meant C.CellCode.code L.NumberList.meaning make.now) }
+    ensures one { SameBytes (meant make.now) }
 {
     let mut sheet = run_new(grid, cells, journal);
     pack(make, &mut sheet, scratch, out)

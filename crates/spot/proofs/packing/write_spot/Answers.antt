@@ -1,22 +1,22 @@
-use Rattle.std.proofs.Common.{◌≡◌, ◌+◌, ◌-◌, ◌≤◌, ◌++◌, length, drop, refl, ap, ◌∙◌, arith, take-append-drop}
-use Rattle.grid.specs.Cells.{on}
+use Rattle.std.proofs.Common.{◌≡◌, ℕ, ◌+◌, ◌-◌, ◌≤◌, List, length, take, is_ok, Ok, Some, None, Option, SomeIff, sym, refl, ap, ◌∙◌, arith}
+use Rattle.std.proofs.lemmas.Grind.{common_steps}
+use Rattle.numlist.specs.Calls.{written}
 use Rattle.spot.specs.Codes.{codes, codes_to}
-use Rattle.spot.specs.Spots.{Wide, making, code_bytes}
-use Rattle.spot.proofs.CodeLists.{root-on}
-use Rattle.spot.proofs.Sheets.{side_fine}
-use Rattle.spot.proofs.Spotting.{no_room, has_room, list_written, list_refused, trailer-is, bytes_left}
+use Rattle.spot.specs.Spots.{meant, code_bytes}
+use Rattle.spot.proofs.Spotting.{Packable, no_room, has_room, list_short, list_written, list_refused, trailer-is, bytes_left}
+use Rattle.spot.proofs.Writing.{sent}
 use Rattle.spot.proofs.packing.write_spot.Given as given
 use Rattle.spot.proofs.packing.write_spot.Goals as goal
-use Rattle.spot.proofs.packing.write_spot.Goals.{After-put_codes}
+use Rattle.spot.proofs.packing.write_spot.Goals.{After-put_codes, In_ok-length}
 
-pub put_codes-requires : goal.put_codes-requires
-put_codes-requires g c =
-    let grid = c.args.grid in
-    record {
-      long = c.requires.long;
-      parent = ap (on grid.side) c.root-root.ensures ∙ root-on grid.side c.args.tree.now grid.low c.requires.placed;
-      placed = c.requires.placed;
-    }
+packable : (g : given.Over) (c : After-put_codes g) → Packable (meant c.args.make.now) c.args.grid c.args.tree.now
+packable g c = record {
+  wide = (c.args.make.now.far, c.args.make.now.near);
+  laws = g.met.C.CellCode.sound c.args.make.now.code;
+  sound = g.met.L.NumberList.sound c.args.make.now.list;
+  few = c.requires.few;
+  placed = c.requires.placed;
+}
 
 -- the codes are then in the scratch
 coded : (g : given.Over) (c : After-put_codes g) → c.put_codes.new.out ≡ codes (g.C.CellCode.code c.args.make.now.code c.args.grid.side) c.args.tree.now
@@ -25,55 +25,60 @@ coded g c =
     c.put_codes.ensures (length tree) (omega arith)
     ∙ ap (λ r. codes_to (length tree) (g.C.CellCode.code c.args.make.now.code c.args.grid.side) r tree) c.root-root.ensures
 
-pub returns-then-out-lt-TRAILER_BYTES : goal.returns-then-out-lt-TRAILER_BYTES
-returns-then-out-lt-TRAILER_BYTES g c =
-    let make = c.args.make.now in
-    let grid = c.args.grid in
-    let M = making (g.C.CellCode.code make.code) (g.L.NumberList.meaning make.list) make.number in
-    record {
-      answer = λ wide.
-          no_room M wide (g.met.C.CellCode.sound make.code) (g.met.L.NumberList.sound make.list) grid.side grid.low (side_fine grid) c.args.tree.now c.requires.few c.requires.placed
-          (length c.args.out.now) (omega (arith, c.if-out-lt-TRAILER_BYTES.true));
-      bytes = λ wide. refl;
-    }
+pub returns-in_err-room-clause-answer : goal.returns-in_err-room-clause-answer
+returns-in_err-room-clause-answer g c =
+    let refused = no_room _ _ _ (packable g (goal.at.returns-in_err-room-clause-answer g c).After-put_codes) (length c.args.out.now) in
+    grind (arith, common_steps, refused)
 
-pub returns-in-Ok : goal.returns-in-Ok
-returns-in-Ok g c =
-    let make = c.args.make.now in
-    let grid = c.args.grid in
-    let tree = c.args.tree.now in
-    let out = c.args.out.now in
-    let M = making (g.C.CellCode.code make.code) (g.L.NumberList.meaning make.list) make.number in
-    let laws = g.met.C.CellCode.sound make.code in
-    let sound = g.met.L.NumberList.sound make.list in
-    let n = c.in-Ok.length in
-    let written = c.in-Ok.ensures in
-    let is = coded g (goal.at.returns-in-Ok g c).After-put_codes in
-    let room = c.if-out-lt-TRAILER_BYTES.false in
-    let told : (wide : Wide M) → (n ≡ length (code_bytes M grid.side tree)) × (n + 24 ≤ length out) =
-    λ wide. list_written M wide laws sound grid.side grid.low (side_fine grid) tree c.requires.few c.requires.placed out _ is room n written.answer in
-    record {
-      answer = λ wide. has_room M wide laws sound grid.side grid.low (side_fine grid) tree c.requires.few c.requires.placed (length out) n (told wide).0 (told wide).1;
-      bytes = λ wide.
-          bytes_left M wide laws sound grid.side grid.low (side_fine grid) tree c.requires.few c.requires.placed out _ is room n _ _ _ (told wide).0 (told wide).1
-          (trailer-is M wide laws sound grid.side grid.low (side_fine grid) tree c.requires.few c.requires.placed out _ is room n _ (told wide).0 refl refl c.root-root.ensures c.side.ensures refl)
-          written.bytes c.put.ensures;
-    }
+-- the bytes but the last 24
+behind : (out : List ℕ) (o : Option ℕ) (room : ℕ) → SomeIff o (24 ≤ length out) (length out - 24) → o ≡ Some room → room + 24 ≡ length out
+behind out (Some x) room h is = let e : x ≡ room = cc in omega arith
+behind out None room h is = absurd (let z : ◌≡◌ {A = Option ℕ} None (Some room) = is in cc)
 
-pub returns-in-Err : goal.returns-in-Err
-returns-in-Err g c =
-    let make = c.args.make.now in
-    let grid = c.args.grid in
-    let out = c.args.out.now in
-    let M = making (g.C.CellCode.code make.code) (g.L.NumberList.meaning make.list) make.number in
-    let laws = g.met.C.CellCode.sound make.code in
-    let sound = g.met.L.NumberList.sound make.list in
-    let refused = c.in-Err.ensures in
-    let is = coded g (goal.at.returns-in-Err g c).After-put_codes in
-    let room = c.if-out-lt-TRAILER_BYTES.false in
-    record {
-      answer = λ wide.
-          no_room M wide laws sound grid.side grid.low (side_fine grid) c.args.tree.now c.requires.few c.requires.placed (length out)
-          (list_refused M wide laws sound grid.side grid.low (side_fine grid) c.args.tree.now c.requires.few c.requires.placed out _ is room c.in-Err.field-0 refused.answer);
-      bytes = λ wide. ap (λ l. l ++ drop (length out - 24) out) refused.bytes ∙ take-append-drop (length out - 24) out;
-    }
+pub returns-in_err-length-clause-answer : goal.returns-in_err-length-clause-answer
+returns-in_err-length-clause-answer g c =
+    let before = (goal.at.returns-in_err-length-clause-answer g c).After-put_codes in
+    let p = packable g before in
+    let room = behind _ _ _ c.checked_sub.ensures c.in_ok-room.ensures.ok_part in
+    let unsent = c.in_err-length.ensures in
+    let short = list_refused _ _ _ p c.args.out.now _ (coded g before) _ room _ unsent.variant c.write.ensures.answer in
+    let refused = no_room _ _ _ p (length c.args.out.now) short in
+    grind (arith, common_steps, refused)
+
+accepted : (g : given.Over) (c : In_ok-length g) → c.write.result ≡ Ok c.in_ok-length.length
+accepted g c = let e = c.in_ok-length.ensures in sent _ c.write.result c.in_ok-length.length e.cases
+
+-- the list has its length and leaves room for the trailer
+told : (g : given.Over) (c : In_ok-length g) → Packable (meant c.args.make.now) c.args.grid c.args.tree.now
+    → c.put_codes.new.out ≡ codes (g.C.CellCode.code c.args.make.now.code c.args.grid.side) c.args.tree.now
+    → (c.in_ok-length.length ≡ length (code_bytes (meant c.args.make.now) c.args.grid.side c.args.tree.now)) × (c.in_ok-length.length + 24 ≤ length c.args.out.now)
+told g c p is =
+    let room = behind _ _ _ c.checked_sub.ensures c.in_ok-room.ensures.ok_part in
+    list_written _ _ _ p c.args.out.now _ is _ room _ (sym (accepted g c) ∙ c.write.ensures.answer)
+
+pub overflow_cast-trailer : goal.overflow_cast-trailer
+overflow_cast-trailer g c =
+    let at = goal.at.overflow_cast-trailer g c in
+    let p = packable g at.After-put_codes in
+    let long = (told g at.In_ok-length p (coded g at.After-put_codes)).0 in
+    omega (arith, long, list_short _ _ _ p)
+
+pub returns-clause-answer : goal.returns-clause-answer
+returns-clause-answer g c =
+    let at = goal.at.returns-clause-answer g c in
+    let p = packable g at.After-put_codes in
+    let t = told g at.In_ok-length p (coded g at.After-put_codes) in
+    has_room _ _ _ p (length c.args.out.now) _ t.0 t.1
+
+pub returns-clause-bytes : goal.returns-clause-bytes
+returns-clause-bytes g c =
+    let at = goal.at.returns-clause-bytes g c in
+    let p = packable g at.After-put_codes in
+    let is = coded g at.After-put_codes in
+    let n = c.in_ok-length.length in
+    let t = told g at.In_ok-length p is in
+    let room = behind _ _ _ c.checked_sub.ensures c.in_ok-room.ensures.ok_part in
+    let listed = c.write.ensures.bytes ∙ ap (λ r. written (g.L.NumberList.meaning c.args.make.now.list) c.put_codes.new.out (take c.in_ok-room.room c.args.out.now) (is_ok r)) (accepted g at.In_ok-length) in
+    bytes_left _ _ _ p c.args.out.now _ is _ room n _ _ _ t.0 t.1
+    (trailer-is _ _ _ p c.args.out.now _ is _ room n _ t.0 refl refl c.root-root.ensures c.side.ensures refl)
+    listed c.put.ensures
