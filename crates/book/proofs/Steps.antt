@@ -11,34 +11,26 @@ use Rattle.sheet.specs.Counts.{Counts, none, counts, counts_from, step}
 use Rattle.sheet.specs.Memory.{places, hits, tally}
 use Rattle.sheet.specs.declared.sheet.Lent.{Lent}
 use Rattle.sheet.specs.declared.call.Call.{Call}
-use Rattle.book.specs.Pages.{Wrote, Part, Room}
+use Rattle.book.specs.Pages.{Wrote, Part}
 use Rattle.book.specs.Replies.{line as reply_line}
 use Rattle.book.specs.Session.{sheet_places, reply, outcome_before, outcome_on, calls, opens, behind, on_grid, from_start, texts}
 use Rattle.book.specs.declared.page.Page.{Page}
 use Rattle.book.specs.declared.refusal.Refused.{Refused}
 use Rattle.book.specs.declared.reply.Reply.{Reply}
-use Rattle.book.specs.declared.reply.Told.{Told}
 use Rattle.book.proofs.Writing.{part_none, part_more, part_all}
 
 -- n elements at most, by the smaller of n and the length
-pub take_min : {X : Type 0} (n : ℕ) (xs : List X) → take (min (length xs) n - 0) xs ≡ take n xs
+pub take_min : {X : Type 0} (n : ℕ) (xs : List X) → take (min (length xs) n) xs ≡ take n xs
 take_min n xs = ⊎_elim short long (cases_lt (length xs) n)
   where
-    short : length xs < n → take (min (length xs) n - 0) xs ≡ take n xs
-    short h = take_all (min (length xs) n - 0) xs (omega arith) ∙ sym (take_all n xs (omega arith))
+    short : length xs < n → take (min (length xs) n) xs ≡ take n xs
+    short h = take_all (min (length xs) n) xs (omega arith) ∙ sym (take_all n xs (omega arith))
 
-    long : n ≤ length xs → take (min (length xs) n - 0) xs ≡ take n xs
-    long h = let e : min (length xs) n - 0 ≡ n = omega arith in ap (λ k. take k xs) e
+    long : n ≤ length xs → take (min (length xs) n) xs ≡ take n xs
+    long h = let e : min (length xs) n ≡ n = omega arith in ap (λ k. take k xs) e
 
 -- a line was read off the front of those left
 module _ (left after : List (List ℕ)) (line : Result Command NotUnderstood) (read : Some line ≡ first_command left) (rest : after ≡ behind_first left) where
-  pub fewer-lines : length after < length left
-  fewer-lines = go left read rest
-    where
-      go : (left : List (List ℕ)) → Some line ≡ first_command left → after ≡ behind_first left → length after < length left
-      go [] r b = let z : ◌≡◌ {A = ℕ} 0 1 = cc in omega arith
-      go (l ∷ ls) r b = omega (arith, ap length b)
-
   pub start_step : from_start left ≡ reply line (outcome_before line) ∷ behind (opens line) (from_start after) after
   start_step = go left read rest
     where
@@ -77,22 +69,16 @@ counts_after : (side places : ℕ) (t : Counts) (earlier later : List Call) → 
 counts_after side places t [] later = refl
 counts_after side places t (call ∷ earlier) later = counts_after side places (step side places t call) earlier later
 
--- so many lines more fit on the page
-pub room_less : (before after : Page) (left rest : List (List ℕ)) → Room before left → length rest < length left → after.len ≤ before.len + 64 → Room after rest
-room_less before after left rest room fewer short = omega arith
-
 -- the lines on a sheet, as far as they are replied to: the calls that they made, and what is written
 pub record Serving (on : Grid) (start : Lent) (input : List ℕ) (page : Page) (grid' : Grid) (sheet : Lent) (rest : List ℕ) (page' : Page) : Type 0 where
-  pub room : Room page' (lines rest)
   pub places : places sheet ≡ 1024
   pub grid : grid' ≡ on
   pub made : List Call
   pub tallied : tally (hits sheet) ≡ counts_from on.side 1024 (tally (hits start)) made
   pub wrote : (earlier : List Call) → tally (hits start) ≡ counts on.side 1024 earlier → Part page (texts (on_grid on.side earlier (lines input))) (texts (on_grid on.side (earlier ++ made) (lines rest))) page'
 
-pub serving_none : (grid : Grid) (start : Lent) (input : List ℕ) (page : Page) → places start ≡ 1024 → Room page (lines input) → Serving grid start input page grid start input page
-serving_none grid start input page places room = record {
-  room = room;
+pub serving_none : (grid : Grid) (start : Lent) (input : List ℕ) (page : Page) → places start ≡ 1024 → Serving grid start input page grid start input page
+serving_none grid start input page places = record {
   places = places;
   grid = refl;
   made = [];
@@ -105,15 +91,14 @@ serving_none grid start input page places room = record {
 -- a line is read and done on the sheet, and its reply is written
 module _ {on grid' grid'' : Grid} {start before after : Lent} {input left left' : List ℕ} {page page' page'' : Page}
     (serving : Serving on start input page grid' before left page')
-    (line : Result Command NotUnderstood) (outcome : Result Told Refused)
+    (line : Result Command NotUnderstood) (outcome : Result (Option ℕ) Refused)
     (read : Some line ≡ first_command (lines left)) (behind' : lines left' ≡ behind_first (lines left))
     (came : outcome ≡ outcome_on grid'.side (tally (hits before)) line)
     (called : tally (hits after) ≡ counts_from grid'.side 1024 (tally (hits before)) (calls line))
     (places' : places after ≡ 1024) (same : grid'' ≡ grid')
-    (replied : Wrote page' (reply_line (reply line outcome)) page'') (short : page''.len ≤ page'.len + 64) where
+    (replied : Wrote page' (reply_line (reply line outcome)) page'') where
   pub serving_more : Serving on start input page grid'' after left' page''
   serving_more = record {
-    room = room_less page' page'' (lines left) (lines left') serving.room (fewer-lines (lines left) (lines left') line read behind') short;
     places = places';
     grid = same ∙ serving.grid;
     made = serving.made ++ calls line;

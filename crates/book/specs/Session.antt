@@ -15,36 +15,34 @@ use Rattle.book.specs.Replies.{line}
 use Rattle.book.specs.declared.refusal.Refused.{Refused}
 use Rattle.book.specs.declared.refusal.Refused.TheVariants.{Side, Sheet, Line}
 use Rattle.book.specs.declared.reply.Reply.{Reply}
-use Rattle.book.specs.declared.reply.Told.{Told}
-use Rattle.book.specs.declared.reply.Told.TheVariants.{Nothing, Held}
 
 -- the places of the program's sheet
 abbrev pub sheet_places : ℕ
 sheet_places = 1024
 
 -- what comes of a line that is not understood
-abbrev pub line_refused : Result Told Refused
+abbrev pub line_refused : Result (Option ℕ) Refused
 line_refused = Err (Line (record {}))
 
 -- the hits held, or the sheet's refusal
-abbrev pub held_or_refused : Result ℕ Refusal → Result Told Refused
-held_or_refused (Ok n) = Ok (Held n)
+abbrev pub held_or_refused : Result ℕ Refusal → Result (Option ℕ) Refused
+held_or_refused (Ok n) = Ok (Some n)
 held_or_refused (Err refused) = Err (Sheet refused)
 
 -- a line before a grid was accepted: only `g` is understood there
-abbrev pub outcome_before : Result Command NotUnderstood → Result Told Refused
-outcome_before (Ok (Grid side)) = cond (allowed side) (Ok Nothing) (Err (Side (record {})))
+abbrev pub outcome_before : Result Command NotUnderstood → Result (Option ℕ) Refused
+outcome_before (Ok (Grid side)) = cond (allowed side) (Ok None) (Err (Side (record {})))
 outcome_before (Ok (Put c)) = line_refused
 outcome_before (Ok (TakeBack c)) = line_refused
 outcome_before (Ok Clear) = line_refused
 outcome_before (Err e) = line_refused
 
 -- a line on a sheet with the counts t: `g` is understood no more
-abbrev pub outcome_on : ℕ → Counts → Result Command NotUnderstood → Result Told Refused
+abbrev pub outcome_on : ℕ → Counts → Result Command NotUnderstood → Result (Option ℕ) Refused
 outcome_on side t (Ok (Grid s)) = line_refused
 outcome_on side t (Ok (Put c)) = held_or_refused (answer side sheet_places t (call.Put c))
 outcome_on side t (Ok (TakeBack c)) = held_or_refused (answer side sheet_places t (call.TakeBack c))
-outcome_on side t (Ok Clear) = Ok Nothing
+outcome_on side t (Ok Clear) = Ok None
 outcome_on side t (Err e) = line_refused
 
 -- the calls of the sheet that a line makes: one or none
@@ -60,7 +58,7 @@ abbrev pub letter_of : Result Command NotUnderstood → ℕ
 letter_of (Ok command) = opening command
 letter_of (Err e) = 63
 
-abbrev pub reply : Result Command NotUnderstood → Result Told Refused → Reply
+abbrev pub reply : Result Command NotUnderstood → Result (Option ℕ) Refused → Reply
 reply said outcome = record { letter = letter_of said; outcome = outcome }
 
 -- the replies to lines on a grid of this side, after the sheet's calls that the lines before them made

@@ -5,6 +5,6 @@ mod page;
 mod refusal;
 mod reply;
 
-pub use page::session::{most_input, replies};
+pub use page::session::{MOST_INPUT, replies};
 pub use refusal::Refused;
-pub use reply::{Reply, Told};
+pub use reply::Reply;

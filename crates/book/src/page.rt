@@ -1,119 +1,69 @@
 //! Lent bytes that text is written to.
-ghost use Rattle.std.specs.Prelude.{◌≡◌, ◌+◌, ◌^◌, ◌<◌, ◌≤◌, [], ◌∷◌, Ok, Err, decimal};
+ghost use Rattle.std.specs.Prelude.{◌≡◌, [], ◌∷◌, decimal};
 ghost use Rattle.book.specs.Pages.{Wrote};
-ghost use Rattle.book.specs.Replies.{opening, text_of, text, line};
+ghost use Rattle.book.specs.Replies.{opening, text, line};
 
-use crate::{Refused, Reply, Told};
+use crate::{Refused, Reply};
+use itoa::Buffer;
 
 pub mod session;
 
-/// Bytes that a caller lends, written from the front on. What finds no place is counted all the same.
+/// Bytes that a caller lends, written from the front on. What finds no place is counted all the same, up to the greatest
+/// count that there is.
 #[derive(Drop)]
 pub struct Page<'a> {
     bytes: &'a mut [u8],
     len: usize,
 }
 
-impl<'a> Page<'a> {
-    /// With nothing written yet.
-    pub fn new(bytes: &'a mut [u8]) -> Page<'a>
-        ensures len { result.len ≡ 0 }
-        ensures bytes { result.bytes.now ≡ bytes.old }
-        ensures lent { result.bytes.ghost_name ≡ bytes.entry.ghost_name }
-    {
-        Page { bytes, len: 0 }
-    }
-}
-
+// No `fmt::Write`: where that fails nothing is known of the page, and no clause of it says that a writer never fails.
 impl Page<'_> {
-    /// Writes a byte.
-    fn byte(&mut self, byte: u8)
-        requires { self.old.len < 2 ^ 63 }
-        ensures { Wrote self.old (byte ∷ []) self.new }
+    /// Writes bytes.
+    fn write(&mut self, text: &[u8])
+        ensures { Wrote self.old text.now self.new }
     {
-        if self.len < self.bytes.len() {
-            self.bytes[self.len] = byte;
-        }
-        self.len += 1;
+        let start = self.len.min(self.bytes.len());
+        let count = text.len().min(self.bytes.len() - start);
+        self.bytes[start..start + count].copy_from_slice(&text[..count]);
+        self.len = self.len.saturating_add(text.len());
     }
 
     /// Writes a number in decimal.
-    fn decimal(&mut self, number: usize)
-        requires { self.old.len + 20 < 2 ^ 63 }
-        ensures wrote { Wrote self.old (decimal number) self.new }
-        ensures short { self.new.len ≤ self.old.len + 20 }
+    fn number(&mut self, number: usize)
+        ensures { Wrote self.old (decimal number) self.new }
     {
-        if number < 10 {
-            self.byte(b'0' + number as u8);
-            return;
-        }
-        self.decimal(number / 10);
-        self.byte(b'0' + (number % 10) as u8);
+        self.write(Buffer::new().format(number).as_bytes());
     }
 
     /// Writes a letter and a number behind it.
     fn opening(&mut self, letter: u8, number: u8)
-        requires { self.old.len + 30 < 2 ^ 63 }
-        ensures wrote { Wrote self.old (opening letter number) self.new }
-        ensures short { self.new.len ≤ self.old.len + 22 }
+        ensures { Wrote self.old (opening letter number) self.new }
     {
-        self.byte(letter);
-        self.byte(b' ');
-        self.decimal(number as usize);
-    }
-
-    /// Writes what an accepted command tells.
-    fn accepted(&mut self, letter: u8, told: Told)
-        requires { self.old.len + 60 < 2 ^ 63 }
-        ensures wrote { Wrote self.old (text_of letter (Ok told)) self.new }
-        ensures short { self.new.len ≤ self.old.len + 50 }
-    {
-        self.opening(letter, 0);
-        if let Told::Held(held) = told {
-            self.byte(b' ');
-            self.decimal(held);
-        }
-    }
-
-    /// Writes why a line is refused.
-    fn refused(&mut self, letter: u8, refused: Refused)
-        requires { self.old.len + 60 < 2 ^ 63 }
-        ensures wrote { Wrote self.old (text_of letter (Err refused)) self.new }
-        ensures short { self.new.len ≤ self.old.len + 50 }
-    {
-        match refused {
-            Refused::Line(_) => self.opening(b'?', refused.number()),
-            Refused::Side(_) => self.opening(letter, refused.number()),
-            Refused::Sheet(_) => self.opening(letter, refused.number()),
-        }
+        self.write(&[letter, b' ']);
+        self.number(usize::from(number));
     }
 
     /// Writes the text of a reply.
     fn text(&mut self, reply: Reply)
-        requires { self.old.len + 60 < 2 ^ 63 }
-        ensures wrote { Wrote self.old (text reply) self.new }
-        ensures short { self.new.len ≤ self.old.len + 50 }
+        ensures { Wrote self.old (text reply) self.new }
     {
         match reply.outcome {
-            Ok(told) => self.accepted(reply.letter, told),
-            Err(refused) => self.refused(reply.letter, refused),
+            Ok(None) => self.opening(reply.letter, 0),
+            Ok(Some(held)) => {
+                self.opening(reply.letter, 0);
+                self.write(b" ");
+                self.number(held);
+            }
+            Err(Refused::Line(refused)) => self.opening(b'?', u8::from(refused)),
+            Err(refused) => self.opening(reply.letter, u8::from(refused)),
         }
     }
 
     /// Writes a reply on a line of its own.
     fn reply(&mut self, reply: Reply)
-        requires { self.old.len + 64 < 2 ^ 63 }
-        ensures wrote { Wrote self.old (line reply) self.new }
-        ensures short { self.new.len ≤ self.old.len + 64 }
+        ensures { Wrote self.old (line reply) self.new }
     {
         self.text(reply);
-        self.byte(b'\n');
-    }
-
-    /// How many bytes were written, those that found no place too.
-    pub fn len(&self) -> usize
-        ensures { result ≡ self.now.len }
-    {
-        self.len
+        self.write(b"\n");
     }
 }

@@ -8,7 +8,7 @@ use line::NotUnderstood;
 use sheet::Refusal;
 
 /// Why a line is refused.
-#[derive(Clone, Copy)]
+#[derive(Clone, Copy, Debug, PartialEq, Eq)]
 pub enum Refused {
     /// The grid's side is out of range.
     Side(SideRefused),
@@ -18,15 +18,15 @@ pub enum Refused {
     Line(NotUnderstood),
 }
 
-impl Refused {
-    /// The number of this refusal.
-    pub fn number(self) -> u8
-        ensures { result ≡ number self }
-    {
-        match self {
-            Refused::Side(refused) => refused.number(),
-            Refused::Sheet(refused) => refused.number(),
-            Refused::Line(refused) => refused.number(),
+/// The number by which this refusal is known.
+impl From<Refused> for u8 {
+    ghost from_gives = { λ refused n. n ≡ number refused };
+
+    fn from(refused: Refused) -> u8 {
+        match refused {
+            Refused::Side(refused) => u8::from(refused),
+            Refused::Sheet(refused) => u8::from(refused),
+            Refused::Line(refused) => u8::from(refused),
         }
     }
 }

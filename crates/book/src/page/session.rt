@@ -7,35 +7,20 @@ ghost use Rattle.sheet.specs.Memory.{hits, tally, places};
 ghost use Rattle.sheet.specs.declared.call.Call.{Call};
 ghost use Rattle.line.specs.Pieces.{lines as lines_of};
 ghost use Rattle.book.specs.Outcomes.{outcome_of_grid, side_of};
-ghost use Rattle.book.specs.Pages.{laid, Part, Room, Wrote};
-ghost use Rattle.book.specs.Session.{calls, reply, outcome_before, outcome_on, opens, on_grid, from_start, behind, texts, session};
+ghost use Rattle.book.specs.Pages.{laid, Part, Wrote};
+ghost use Rattle.book.specs.Session.{calls, outcome_before, outcome_on, opens, on_grid, from_start, behind, texts, session};
 
 use super::Page;
-use crate::{Refused, Reply, Told};
+use crate::{Refused, Reply};
 use grid::{Cell, Grid};
 use line::{Command, Lines, NotUnderstood};
 use sheet::Sheet;
 
 /// The most bytes of an input that are read.
-pub fn most_input() -> usize
-    ensures { result ≡ 65536 }
-{
-    65_536
-}
+pub const MOST_INPUT: usize = 65_536;
 
 /// The places of the program's sheet.
 const PLACES: usize = 1024;
-
-/// The reply to a line.
-fn reply_to(line: Result<Command, NotUnderstood>, outcome: Result<Told, Refused>) -> Reply
-    ensures { result ≡ reply line outcome }
-{
-    let letter = match line {
-        Ok(command) => command.letter(),
-        Err(_) => b'?',
-    };
-    Reply { letter, outcome }
-}
 
 /// The grid that a line asks for, which no other line than `g` does.
 fn asked_grid(line: Result<Command, NotUnderstood>) -> Result<Grid, Refused>
@@ -48,18 +33,11 @@ fn asked_grid(line: Result<Command, NotUnderstood>) -> Result<Grid, Refused>
     }
 }
 
-/// What came of a line that asks for a grid.
-fn grid_outcome(asked: Result<Grid, Refused>) -> Result<Told, Refused>
-    ensures { result ≡ outcome_of_grid asked }
-{
-    match asked {
-        Ok(_) => Ok(Told::Nothing),
-        Err(refused) => Err(refused),
-    }
-}
-
 /// Does what a line asks of the sheet.
-fn perform(sheet: &mut Sheet, line: Result<Command, NotUnderstood>) -> Result<Told, Refused>
+fn perform(
+    sheet: &mut Sheet,
+    line: Result<Command, NotUnderstood>,
+) -> Result<Option<usize>, Refused>
     requires { places sheet.old.lent ≡ 1024 }
     ensures outcome { result ≡ outcome_on sheet.old.grid.side (tally (hits sheet.old.lent)) line }
     ensures counts { tally (hits sheet.new.lent) ≡ counts_from sheet.old.grid.side 1024 (tally (hits sheet.old.lent)) (calls line) }
@@ -67,11 +45,11 @@ fn perform(sheet: &mut Sheet, line: Result<Command, NotUnderstood>) -> Result<To
     ensures grid { sheet.new.grid ≡ sheet.old.grid }
 {
     match line? {
-        Command::Put(cell) => Ok(Told::Held(sheet.put(cell)?)),
-        Command::TakeBack(cell) => Ok(Told::Held(sheet.take_back(cell)?)),
+        Command::Put(cell) => Ok(Some(sheet.put(cell)?)),
+        Command::TakeBack(cell) => Ok(Some(sheet.take_back(cell)?)),
         Command::Clear => {
             sheet.clear();
-            Ok(Told::Nothing)
+            Ok(None)
         }
         Command::Grid(_) => Err(Refused::Line(NotUnderstood)),
     }
@@ -79,13 +57,13 @@ fn perform(sheet: &mut Sheet, line: Result<Command, NotUnderstood>) -> Result<To
 
 /// Replies to the lines up to one that opens a grid, and gives that grid; none where the lines end before.
 fn open(lines: &mut Lines, page: &mut Page) -> Option<Grid>
-    requires { Room page.old (lines_of lines.old.rest.now) }
-    ensures replied { Part page.old (texts (from_start (lines_of lines.old.rest.now))) (texts (behind (option_map side_of result) [] (lines_of lines.new.rest.now))) page.new }
-    ensures room { Room page.new (lines_of lines.new.rest.now) }
+    ensures { Part page.old (texts (from_start (lines_of lines.old.rest.now))) (texts (behind (option_map side_of result) [] (lines_of lines.new.rest.now))) page.new }
 {
+    // No `for`: `next` of a `&mut` does not promise that the `&mut` stays the same one, so after a loop nothing would be
+    // known of the lines that are left.
     while let Some(line) = lines.next() {
         let asked = asked_grid(line);
-        page.reply(reply_to(line, grid_outcome(asked)));
+        page.reply(Reply::new(line, asked.map(|_| None)));
         if let Ok(grid) = asked {
             return Some(grid);
         }
@@ -95,13 +73,12 @@ fn open(lines: &mut Lines, page: &mut Page) -> Option<Grid>
 
 /// Replies to lines on a sheet.
 fn serve(sheet: &mut Sheet, lines: &mut Lines, page: &mut Page)
-    requires places { places sheet.old.lent ≡ 1024 }
-    requires room { Room page.old (lines_of lines.old.rest.now) }
+    requires { places sheet.old.lent ≡ 1024 }
     ensures { (past : List Call) → tally (hits sheet.old.lent) ≡ counts sheet.old.grid.side 1024 past → Wrote page.old (texts (on_grid sheet.old.grid.side past (lines_of lines.old.rest.now))) page.new }
 {
-    while let Some(line) = lines.next() {
+    for line in lines {
         let outcome = perform(sheet, line);
-        page.reply(reply_to(line, outcome));
+        page.reply(Reply::new(line, outcome));
     }
 }
 
@@ -110,7 +87,7 @@ fn read_part(input: &[u8]) -> &[u8]
     ensures part { result.now ≡ take 65536 input.now }
     ensures few { length result.now ≤ 65536 }
 {
-    &input[0..input.len().min(most_input())]
+    &input[..input.len().min(MOST_INPUT)]
 }
 
 /// Replies to an input, a line to each of its lines, and tells how many bytes the replies have. They are written to
@@ -122,10 +99,10 @@ pub fn replies(input: &[u8], out: &mut [u8]) -> usize
     let mut lines = Lines::new(read_part(input));
     let mut page = Page { bytes: out, len: 0 };
     let Some(grid) = open(&mut lines, &mut page) else {
-        return page.len();
+        return page.len;
     };
     let mut cells = [Cell { x: 0, y: 0 }; PLACES];
     let mut sheet = Sheet::new(grid, &mut cells);
     serve(&mut sheet, &mut lines, &mut page);
-    page.len()
+    page.len
 }

@@ -1,4 +1,0 @@
-use Rattle.book.proofs.page.Page.+decimal.Given as goal
-
-abbrev pub decreases-decimal : goal.decreases-decimal
-decreases-decimal l = l.number
