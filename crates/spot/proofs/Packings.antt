@@ -6,9 +6,7 @@ use Rattle.grid.specs.Cells.{count}
 use Rattle.grid.specs.declared.cell.Cell.{Cell}
 use Rattle.select.specs.declared.element.Axis.TheVariants.{X}
 use Rattle.arrange.proofs.Computing.{tree_of_cells}
-use Rattle.sheet.specs.Arranged.{Keeps}
 use Rattle.sheet.specs.Memory.{hits, tally}
-use Rattle.sheet.specs.declared.sheet.Lent.{Lent}
 use Rattle.spot.specs.Packs.{Packs, SameBytes, spot_answer, left_by}
 use Rattle.spot.specs.Spots.{Making, spot, packed_spot}
 use Rattle.spot.specs.declared.refusal.PackRefused.{PackRefused}
@@ -31,10 +29,6 @@ module _ (M : Making) (side : ℕ) (hits : List Cell) (scratch : ℕ) (out : Lis
     answered = answered ∙ sym (ap (λ b. cond b (spot_answer (packed_spot M side hits) (length out)) (Err PackRefused.NoScratch)) (le-leb (length hits) scratch enough));
     bytes = bytes;
   }
-
--- packing that does nothing to the memory keeps the hits
-pub keeps_still : (lent : Lent) → Keeps lent lent
-keeps_still lent = record { counted = refl; lent = refl; as_many = refl; behind = refl }
 
 -- hits of the same counts have the same tree, and so the same spot
 pub same_spot : (M : Making) (side : ℕ) (hs hs' : List Cell) → ((c : Cell) → count c hs ≡ count c hs') → packed_spot M side hs ≡ packed_spot M side hs'

@@ -24,8 +24,7 @@ pub fn pack<C: CellCode, L: NumberList>(
 ) -> Result<usize, PackRefused>
     ensures packs { Packs (meant make.now) sheet.old.grid.side (tally (hits sheet.old.lent)) (length scratch.old) out.old out.new result }
     ensures fits { length (hits sheet.old.lent) ≤ length scratch.old → (length (hits sheet.old.lent) + 16) * (L.NumberList.meaning make.now.list).reach + 24 ≤ length out.old → is_ok result ≡ true }
-    ensures keeps { Keeps sheet.old.lent sheet.new.lent }
-    ensures grid { sheet.new.grid ≡ sheet.old.grid }
+    ensures keeps { Keeps sheet.old sheet.new }
 {
     let held = sheet.held();
     if scratch.len() < held {
