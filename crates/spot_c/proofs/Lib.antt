@@ -1,4 +1,1 @@
-pub mod InPlace
 pub mod Lookups
-pub mod TwoCuts
-pub mod Puts

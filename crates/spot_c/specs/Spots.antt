@@ -1,5 +1,6 @@
 -- What packing through the exported function tells and leaves.
 use Rattle.std.specs.Prelude.{◌≡◌, ℕ, zero, suc, Bool, true, false, cond, ◌&&◌, List, [], ◌∷◌, map, Some, None, Ok, Err, Option, Result, nat_le}
+use Rattle.grid.specs.Joined.{cell_of_joined}
 use Rattle.grid.specs.declared.cell.Cell.{Cell}
 use Rattle.cellcode.specs.Ring.{ring}
 use Rattle.cellcode.specs.Row.{row}
@@ -15,7 +16,6 @@ use Rattle.spot.specs.Refusals.{pack_number}
 use Rattle.spot.specs.Spots.{Making, making}
 use Rattle.spot.specs.declared.refusal.PackRefused.{PackRefused}
 use Rattle.spot_c.specs.Lists.{refused}
-use Rattle.spot_c.specs.Told.{cell_of_joined}
 
 -- a hit, a cell in one number, as the call that puts it
 abbrev pub put_of : ℕ → Call

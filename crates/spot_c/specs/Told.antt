@@ -1,16 +1,10 @@
 -- What the exported functions answer in one number.
-use Rattle.std.specs.Prelude.{◌≡◌, ℕ, ◌+◌, ◌*◌, ◌/◌, ◌%◌, ◌^◌, true, false, cond, ◌&&◌, Some, None, Option}
+use Rattle.std.specs.Prelude.{◌≡◌, ℕ, ◌+◌, ◌^◌, true, false, cond, ◌&&◌, Some, None, Option}
 use Rattle.grid.specs.Cells.{on}
+use Rattle.grid.specs.Joined.{joined}
 use Rattle.grid.specs.Sides.{allowed}
 use Rattle.grid.specs.declared.cell.Cell.{Cell}
 use Rattle.cellcode.specs.Codes.{Decodes}
-
--- a cell as one number, its column in the upper half, and back
-abbrev pub joined : Cell → ℕ
-joined c = c.x * 2 ^ 32 + c.y
-
-abbrev pub cell_of_joined : ℕ → Cell
-cell_of_joined n = record { x = n / 2 ^ 32; y = n % 2 ^ 32 }
 
 -- the number of a cell, or 2^63 and the number of the refusal
 abbrev pub encoded : (ℕ → Cell → Cell → ℕ) → ℕ → Cell → Cell → ℕ

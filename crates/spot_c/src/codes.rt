@@ -1,65 +1,49 @@
 //! Cell codes, for one cell and for many.
 ghost use Rattle.std.specs.Prelude.{◌≡◌, ℕ, ◌<◌, length, slice_index};
+ghost use Rattle.grid.specs.Joined.{cell_of_joined};
 ghost use Rattle.grid.specs.declared.cell.Cell.{Cell};
 ghost use Rattle.cellcode.specs.Ring.{ring};
 ghost use Rattle.cellcode.specs.Row.{row};
-ghost use Rattle.spot_c.specs.Told.{cell_of_joined, encoded, Found};
+ghost use Rattle.spot_c.specs.Refusals.{answer_told};
+ghost use Rattle.spot_c.specs.Told.{encoded, told as found_told, Found};
 
+use crate::refusal::{Refused, told};
 use cellcode::{CellCode, RingCode, RowCode};
 use grid::{Cell, Grid};
 
 /// What stands for no cell.
 const NONE: u64 = u64::MAX;
 
-/// Refusals are told by their number above this.
-const REFUSED: u64 = 9_223_372_036_854_775_808;
-
-/// The number of the cell, or a refusal.
-fn encode_by<C: CellCode>(codes: &C, side: u32, parent: Cell, cell: Cell) -> u64
-    ensures { result ≡ encoded (C.CellCode.code codes.now) side parent cell }
+/// The number of the cell.
+fn encode<C: CellCode>(codes: &C, side: u32, parent: Cell, cell: Cell) -> Result<u64, Refused>
+    ensures { answer_told result ≡ encoded (C.CellCode.code codes.now) side parent cell }
 {
-    let Ok(grid) = Grid::new(side) else {
-        return REFUSED + 1;
-    };
-    match codes.encode(grid, parent, cell) {
-        Ok(number) => number,
-        Err(refused) => REFUSED + u64::from(refused.number()),
-    }
+    let grid = Grid::new(side)?;
+    Ok(codes.encode(grid, parent, cell)?)
 }
 
-/// The cell that has the number, as one number, or that there is none.
-fn decode_by<C: CellCode>(codes: &C, side: u32, parent: Cell, number: u64) -> u64
-    ensures { Found (C.CellCode.code codes.now) side parent number result }
+/// The cell that has the number, if there is one. On no grid there is none.
+fn decode<C: CellCode>(codes: &C, side: u32, parent: Cell, number: u64) -> Option<Cell>
+    ensures { Found (C.CellCode.code codes.now) side parent number (found_told result) }
 {
-    let Ok(grid) = Grid::new(side) else {
-        return NONE;
-    };
-    match codes.decode(grid, parent, number) {
-        Some(cell) => u64::from(cell.x) * 4_294_967_296 + u64::from(cell.y),
-        None => NONE,
-    }
+    let grid = Grid::new(side).ok()?;
+    codes.decode(grid, parent, number)
 }
 
-/// Puts the number of each cell in its place.
-fn encode_each_by<C: CellCode>(codes: &C, side: u32, parent: Cell, cells: &mut [u64])
-    ensures { (k : ℕ) → k < length cells.old → slice_index cells.new k ≡ encoded (C.CellCode.code codes.now) side parent (cell_of_joined (slice_index cells.old k)) }
+/// The cell that was found, as one number, or that there is none.
+fn found(cell: Option<Cell>) -> u64
+    ensures { result ≡ found_told cell }
 {
-    for i in 0..cells.len() {
-        let joined = cells[i];
-        let cell = Cell {
-            x: (joined / 4_294_967_296) as u32,
-            y: (joined % 4_294_967_296) as u32,
-        };
-        cells[i] = encode_by(codes, side, parent, cell);
-    }
+    cell.map_or(NONE, u64::from)
 }
 
-/// Puts the cell of each number in its place.
-fn decode_each_by<C: CellCode>(codes: &C, side: u32, parent: Cell, numbers: &mut [u64])
-    ensures { (k : ℕ) → k < length numbers.old → Found (C.CellCode.code codes.now) side parent (slice_index numbers.old k) (slice_index numbers.new k) }
+/// Puts in the place of each number what `f` makes of it.
+fn each<F: Fn(u64) -> u64>(numbers: &mut [u64], f: F)
+    requires { F.IsAlwaysCallable f }
+    ensures { (k : ℕ) → k < length numbers.old → F.post f (slice_index numbers.old k) (slice_index numbers.new k) }
 {
-    for i in 0..numbers.len() {
-        numbers[i] = decode_by(codes, side, parent, numbers[i]);
+    for number in numbers.iter_mut() {
+        *number = f(*number);
     }
 }
 
@@ -68,7 +52,7 @@ fn decode_each_by<C: CellCode>(codes: &C, side: u32, parent: Cell, numbers: &mut
 pub extern "C" fn spot_ring_encode(side: u32, px: u32, py: u32, x: u32, y: u32) -> u64
     ensures { result ≡ encoded ring side (record { x = px; y = py }) (record { x = x; y = y }) }
 {
-    encode_by(&RingCode, side, Cell { x: px, y: py }, Cell { x, y })
+    told(encode(&RingCode, side, Cell { x: px, y: py }, Cell { x, y }))
 }
 
 /// The row code's number of cell (x, y).
@@ -76,7 +60,7 @@ pub extern "C" fn spot_ring_encode(side: u32, px: u32, py: u32, x: u32, y: u32) 
 pub extern "C" fn spot_row_encode(side: u32, px: u32, py: u32, x: u32, y: u32) -> u64
     ensures { result ≡ encoded row side (record { x = px; y = py }) (record { x = x; y = y }) }
 {
-    encode_by(&RowCode, side, Cell { x: px, y: py }, Cell { x, y })
+    told(encode(&RowCode, side, Cell { x: px, y: py }, Cell { x, y }))
 }
 
 /// The cell of the ring code's number from a parent.
@@ -84,7 +68,7 @@ pub extern "C" fn spot_row_encode(side: u32, px: u32, py: u32, x: u32, y: u32) -
 pub extern "C" fn spot_ring_decode(side: u32, px: u32, py: u32, number: u64) -> u64
     ensures { Found ring side (record { x = px; y = py }) number result }
 {
-    decode_by(&RingCode, side, Cell { x: px, y: py }, number)
+    found(decode(&RingCode, side, Cell { x: px, y: py }, number))
 }
 
 /// The cell of the row code's number.
@@ -92,7 +76,7 @@ pub extern "C" fn spot_ring_decode(side: u32, px: u32, py: u32, number: u64) -> 
 pub extern "C" fn spot_row_decode(side: u32, px: u32, py: u32, number: u64) -> u64
     ensures { Found row side (record { x = px; y = py }) number result }
 {
-    decode_by(&RowCode, side, Cell { x: px, y: py }, number)
+    found(decode(&RowCode, side, Cell { x: px, y: py }, number))
 }
 
 /// The ring code's number of each cell, in its place.
@@ -100,7 +84,11 @@ pub extern "C" fn spot_row_decode(side: u32, px: u32, py: u32, number: u64) -> u
 pub extern "C" fn spot_ring_encode_each(side: u32, px: u32, py: u32, cells: &mut [u64])
     ensures { (k : ℕ) → k < length cells.old → slice_index cells.new k ≡ encoded ring side (record { x = px; y = py }) (cell_of_joined (slice_index cells.old k)) }
 {
-    encode_each_by(&RingCode, side, Cell { x: px, y: py }, cells);
+    let parent = Cell { x: px, y: py };
+    each(
+        cells,
+        |cell| told(encode(&RingCode, side, parent, Cell::from(cell))),
+    );
 }
 
 /// The row code's number of each cell, in its place.
@@ -108,7 +96,11 @@ pub extern "C" fn spot_ring_encode_each(side: u32, px: u32, py: u32, cells: &mut
 pub extern "C" fn spot_row_encode_each(side: u32, px: u32, py: u32, cells: &mut [u64])
     ensures { (k : ℕ) → k < length cells.old → slice_index cells.new k ≡ encoded row side (record { x = px; y = py }) (cell_of_joined (slice_index cells.old k)) }
 {
-    encode_each_by(&RowCode, side, Cell { x: px, y: py }, cells);
+    let parent = Cell { x: px, y: py };
+    each(
+        cells,
+        |cell| told(encode(&RowCode, side, parent, Cell::from(cell))),
+    );
 }
 
 /// The cell of each of the ring code's numbers, in its place.
@@ -116,7 +108,11 @@ pub extern "C" fn spot_row_encode_each(side: u32, px: u32, py: u32, cells: &mut 
 pub extern "C" fn spot_ring_decode_each(side: u32, px: u32, py: u32, numbers: &mut [u64])
     ensures { (k : ℕ) → k < length numbers.old → Found ring side (record { x = px; y = py }) (slice_index numbers.old k) (slice_index numbers.new k) }
 {
-    decode_each_by(&RingCode, side, Cell { x: px, y: py }, numbers);
+    let parent = Cell { x: px, y: py };
+    each(
+        numbers,
+        |number| found(decode(&RingCode, side, parent, number)),
+    );
 }
 
 /// The cell of each of the row code's numbers, in its place.
@@ -124,5 +120,9 @@ pub extern "C" fn spot_ring_decode_each(side: u32, px: u32, py: u32, numbers: &m
 pub extern "C" fn spot_row_decode_each(side: u32, px: u32, py: u32, numbers: &mut [u64])
     ensures { (k : ℕ) → k < length numbers.old → Found row side (record { x = px; y = py }) (slice_index numbers.old k) (slice_index numbers.new k) }
 {
-    decode_each_by(&RowCode, side, Cell { x: px, y: py }, numbers);
+    let parent = Cell { x: px, y: py };
+    each(
+        numbers,
+        |number| found(decode(&RowCode, side, parent, number)),
+    );
 }

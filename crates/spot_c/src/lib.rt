@@ -1,9 +1,11 @@
 //! The library for callers in C and Rust: exported functions on numbers and slices.
 #![tactic(auto)]
 
+mod code;
 mod codes;
 mod lists;
 mod packs;
+mod refusal;
 
 pub use codes::{
     spot_ring_decode, spot_ring_decode_each, spot_ring_encode, spot_ring_encode_each,

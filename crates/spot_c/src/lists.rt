@@ -1,52 +1,15 @@
 //! Number lists: piles that are given by their widths.
-ghost use Rattle.std.specs.Prelude.{◌≡◌, ℕ, ◌+◌, ◌<◌, ◌≤◌, [], ◌∷◌, length, is_ok, Some, None, Ok};
-ghost use Rattle.numlist.specs.Calls.{write_answer, written, open_answer};
+ghost use Rattle.std.specs.Prelude.{◌≡◌, ◌≤◌, [], ◌∷◌, length, IfSome, Ok};
 ghost use Rattle.numlist.specs.Cuts.{cut};
 ghost use Rattle.numlist.specs.Fixed.{fixed};
 ghost use Rattle.numlist.specs.Lists.{most};
-ghost use Rattle.numlist.specs.declared.fault.ListFault.{ListFault};
 ghost use Rattle.pile.specs.Piles.{pile_of};
-ghost use Rattle.spot_c.specs.Lists.{fault_told, write_told, open_told, pile_write_told, pile_written, pile_open_told, ReadTold, PileReadTold};
+ghost use Rattle.spot_c.specs.Lists.{pile_write_told, pile_written, pile_open_told, ReadTold, PileReadTold};
+ghost use Rattle.spot_c.specs.Refusals.{answer_told, done_told, read_told};
 
-use numlist::{Cut, Fixed, ListFault, MOST_NUMBERS, NumberList, OpenRefused};
+use crate::refusal::{Refused, told};
+use numlist::{Cut, Fixed, MOST_NUMBERS, NumberList, ReadRefused};
 use pile::new_pile;
-
-/// Refusals are told by their number above this.
-const REFUSED: u64 = 9_223_372_036_854_775_808;
-
-/// Writes the string of the numbers, and tells its length or the refusal.
-fn write_by<L: NumberList>(list: &L, numbers: &[u64], out: &mut [u8]) -> u64
-    ensures answer { result ≡ write_told (write_answer (L.NumberList.meaning list.now) numbers.now (length out.old)) }
-    ensures bytes { out.new ≡ written (L.NumberList.meaning list.now) numbers.now out.old (is_ok (write_answer (L.NumberList.meaning list.now) numbers.now (length out.old))) }
-{
-    match list.write(numbers, out) {
-        Ok(length) => length as u64,
-        Err(refusal) => REFUSED + u64::from(refusal.number()),
-    }
-}
-
-/// A fault of bytes with its test and its level in one number. No pile has 255 levels.
-fn faulty(fault: ListFault) -> u64
-    ensures { result ≡ fault_told fault }
-{
-    let level = if fault.level < 255 {
-        fault.level as u64
-    } else {
-        255
-    };
-    REFUSED + 13 + 256 * u64::from(fault.test.number()) + 65_536 * level
-}
-
-/// The length of the string with which the bytes begin, or the refusal.
-fn open_by<L: NumberList>(list: &L, bytes: &[u8], count: usize) -> u64
-    ensures { (L.NumberList.meaning list.now).reach ≤ 64 → result ≡ open_told (open_answer (L.NumberList.meaning list.now) bytes.now count) }
-{
-    match list.open(bytes, count) {
-        Ok(length) => length as u64,
-        Err(OpenRefused::TooMany) => REFUSED + 11,
-        Err(OpenRefused::Faulty(fault)) => faulty(fault),
-    }
-}
 
 /// Writes the string of the numbers at the front of the bytes, by a fixed list of so many bits under cuts of these
 /// widths, the lowest first. Tells the length of the string, or the refusal.
@@ -55,10 +18,16 @@ pub extern "C" fn spot_list_write(bits: u32, cuts: &[u32], numbers: &[u64], out:
     ensures answer { result ≡ pile_write_told (pile_of bits cuts.now) numbers.now (length out.old) }
     ensures bytes { out.new ≡ pile_written (pile_of bits cuts.now) numbers.now out.old }
 {
-    match new_pile(bits, cuts) {
-        Ok(pile) => write_by(&pile, numbers, out),
-        Err(refusal) => REFUSED + u64::from(refusal.number()),
-    }
+    told(write(bits, cuts, numbers, out))
+}
+
+/// Writes the string, and gives its length.
+fn write(bits: u32, cuts: &[u32], numbers: &[u64], out: &mut [u8]) -> Result<u64, Refused>
+    ensures answer { answer_told result ≡ pile_write_told (pile_of bits cuts.now) numbers.now (length out.old) }
+    ensures bytes { out.new ≡ pile_written (pile_of bits cuts.now) numbers.now out.old }
+{
+    let pile = new_pile(bits, cuts)?;
+    Ok(pile.write(numbers, out)? as u64)
 }
 
 /// The length of the string of so many numbers with which the bytes begin, or the refusal.
@@ -66,10 +35,15 @@ pub extern "C" fn spot_list_write(bits: u32, cuts: &[u32], numbers: &[u64], out:
 pub extern "C" fn spot_list_open(bits: u32, cuts: &[u32], bytes: &[u8], count: usize) -> u64
     ensures { result ≡ pile_open_told (pile_of bits cuts.now) bytes.now count }
 {
-    match new_pile(bits, cuts) {
-        Ok(pile) => open_by(&pile, bytes, count),
-        Err(refusal) => REFUSED + u64::from(refusal.number()),
-    }
+    told(open(bits, cuts, bytes, count))
+}
+
+/// The length of the string.
+fn open(bits: u32, cuts: &[u32], bytes: &[u8], count: usize) -> Result<u64, Refused>
+    ensures { answer_told result ≡ pile_open_told (pile_of bits cuts.now) bytes.now count }
+{
+    let pile = new_pile(bits, cuts)?;
+    Ok(pile.open(bytes, count)? as u64)
 }
 
 /// Puts the number at each place in that place, up to the first refusal, and tells that or 0.
@@ -83,45 +57,52 @@ pub extern "C" fn spot_list_read(
 ) -> u64
     ensures { PileReadTold (pile_of bits cuts.now) bytes.now count places.old places.new result }
 {
-    if cuts.len() == 2 {
-        if let Some(list) = two_cuts(bits, cuts[0], cuts[1]) {
-            return read_each_by(&list, bytes, count, places);
-        }
-    }
-    match new_pile(bits, cuts) {
-        Ok(pile) => read_each_by(&pile, bytes, count, places),
-        Err(refusal) => REFUSED + u64::from(refusal.number()),
-    }
+    told(read(bits, cuts, bytes, count, places).map(|()| 0))
 }
 
-/// The pile of two cuts as a type of its own, where it can be made: reading it looks through no layers, which takes half
-/// the time.
-fn two_cuts(bits: u32, lower: u32, upper: u32) -> Option<Cut<Cut<Fixed>>>
-    ensures { elim result [ Some list ↦ pile_of bits (lower ∷ upper ∷ []) ≡ Ok (cut list.width.bits (cut list.below.width.bits (fixed list.below.below.width.bits))) | None ↦ Unit {0} ] }
+/// Reads the places of a string. Two cuts are read as a type of their own: reading looks through no layers then, which
+/// takes half the time.
+fn read(
+    bits: u32,
+    cuts: &[u32],
+    bytes: &[u8],
+    count: usize,
+    places: &mut [u64],
+) -> Result<(), Refused>
+    ensures { PileReadTold (pile_of bits cuts.now) bytes.now count places.old places.new (done_told result) }
 {
-    let Ok(fixed) = Fixed::new(bits) else {
-        return None;
-    };
-    let Ok(low) = Cut::new(lower, fixed) else {
-        return None;
-    };
-    let Ok(high) = Cut::new(upper, low) else {
-        return None;
-    };
-    Some(high)
+    if let [lower, upper] = *cuts {
+        if let Some(list) = two_cuts(bits, lower, upper) {
+            return Ok(read_each(&list, bytes, count, places)?);
+        }
+    }
+    let pile = new_pile(bits, cuts)?;
+    Ok(read_each(&pile, bytes, count, places)?)
+}
+
+/// The pile of two cuts as a type of its own, where it can be made.
+fn two_cuts(bits: u32, lower: u32, upper: u32) -> Option<Cut<Cut<Fixed>>>
+    ensures { IfSome result (λ list. pile_of bits (lower ∷ upper ∷ []) ≡ Ok (cut list.width.bits (cut list.below.width.bits (fixed list.below.below.width.bits)))) }
+{
+    let fixed = Fixed::new(bits).ok()?;
+    let low = Cut::new(lower, fixed).ok()?;
+    Cut::new(upper, low).ok()
 }
 
 /// Reads the places of a string, whose sections are found one time.
-fn read_each_by<L: NumberList>(list: &L, bytes: &[u8], count: usize, places: &mut [u64]) -> u64
-    ensures { (L.NumberList.meaning list.now).reach ≤ 64 → ReadTold (L.NumberList.meaning list.now) bytes.now count places.old places.new result }
+fn read_each<L: NumberList>(
+    list: &L,
+    bytes: &[u8],
+    count: usize,
+    places: &mut [u64],
+) -> Result<(), ReadRefused>
+    ensures { (L.NumberList.meaning list.now).reach ≤ 64 → ReadTold (L.NumberList.meaning list.now) bytes.now count places.old places.new (read_told result) }
 {
     if count > MOST_NUMBERS {
-        return REFUSED + 11;
+        return Err(ReadRefused::TooMany);
     }
-    match list.layout(bytes, count) {
-        Ok(layout) => read_each_at(list, &layout, bytes, count, places),
-        Err(fault) => faulty(fault),
-    }
+    let layout = list.layout(bytes, count).map_err(ReadRefused::Faulty)?;
+    read_each_at(list, &layout, bytes, count, places)
 }
 
 /// Reads the places of a string whose sections are known.
@@ -131,20 +112,18 @@ fn read_each_at<L: NumberList>(
     bytes: &[u8],
     count: usize,
     places: &mut [u64],
-) -> u64
+) -> Result<(), ReadRefused>
     requires few { count ≤ most }
     requires laid { L.NumberList.laid list.now bytes.now count layout.now }
-    ensures { (L.NumberList.meaning list.now).reach ≤ 64 → ReadTold (L.NumberList.meaning list.now) bytes.now count places.old places.new result }
+    ensures { (L.NumberList.meaning list.now).reach ≤ 64 → ReadTold (L.NumberList.meaning list.now) bytes.now count places.old places.new (read_told result) }
 {
-    for k in 0..places.len() {
-        let place = places[k];
-        if place >= count as u64 {
-            return REFUSED + 11;
+    for place in places.iter_mut() {
+        if *place >= count as u64 {
+            return Err(ReadRefused::NoNumber);
         }
-        match list.read_at(layout, bytes, count, place as usize) {
-            Ok(number) => places[k] = number,
-            Err(fault) => return faulty(fault),
-        }
+        *place = list
+            .read_at(layout, bytes, count, *place as usize)
+            .map_err(ReadRefused::Faulty)?;
     }
-    0
+    Ok(())
 }

@@ -1,0 +1,161 @@
+//! Why an exported function refuses what it is asked, and how that is told in one number.
+ghost use Rattle.std.specs.Prelude.{◌≡◌, ◌^◌, ◌<◌};
+ghost use Rattle.spot_c.specs.Lists.{refused};
+ghost use Rattle.spot_c.specs.Refusals.{fault_number, number, answer_told};
+ghost use Rattle.spot_c.specs.declared.refusal.Refused.TheVariants.{Side, OffGrid as AnOffGrid, Sheet, Pile, Write, Open, Read, Make, Pack, Code};
+
+use cellcode::OffGrid;
+use grid::SideRefused;
+use numlist::{ListFault, OpenRefused, ReadRefused, WriteRefused};
+use pile::PileRefused;
+use sheet::Refusal;
+use spot::{MakeRefused, PackRefused};
+
+/// Refusals are told by their number above this.
+const REFUSED: u64 = 1 << 63;
+
+/// No cell code has the number.
+#[derive(Clone, Copy)]
+pub(crate) struct NoCode;
+
+/// Why an exported function refuses: the refusal of the layer that it asked.
+#[derive(Clone, Copy)]
+pub(crate) enum Refused {
+    Side(SideRefused),
+    OffGrid(OffGrid),
+    Sheet(Refusal),
+    Pile(PileRefused),
+    Write(WriteRefused),
+    Open(OpenRefused),
+    Read(ReadRefused),
+    Make(MakeRefused),
+    Pack(PackRefused),
+    Code(NoCode),
+}
+
+impl Refused {
+    /// The number of a refusal: that of its layer, and of faulty bytes also their test and level.
+    fn number(self) -> u64
+        ensures value { result ≡ number self }
+        ensures small { result < 2 ^ 32 }
+    {
+        match self {
+            Refused::Side(why) => u64::from(u8::from(why)),
+            Refused::OffGrid(why) => u64::from(why.number()),
+            Refused::Sheet(why) => u64::from(why.number()),
+            Refused::Pile(why) => u64::from(why.number()),
+            Refused::Write(why) => u64::from(why.number()),
+            Refused::Open(OpenRefused::Faulty(fault)) => fault_number(fault),
+            Refused::Open(why) => u64::from(why.number()),
+            Refused::Read(ReadRefused::Faulty(fault)) => fault_number(fault),
+            Refused::Read(why) => u64::from(why.number()),
+            Refused::Make(why) => u64::from(why.number()),
+            Refused::Pack(why) => u64::from(why.number()),
+            Refused::Code(NoCode) => 11,
+        }
+    }
+}
+
+/// The number of a fault of bytes, with its test and its level above. No pile has 255 levels.
+fn fault_number(fault: ListFault) -> u64
+    ensures value { result ≡ fault_number fault }
+    ensures small { result < 2 ^ 32 }
+{
+    13 + 256 * u64::from(fault.test.number()) + 65_536 * fault.level.min(255) as u64
+}
+
+/// A refusal in one number that is no answer.
+impl From<Refused> for u64 {
+    ghost from_gives = { λ why n. n ≡ refused (number why) };
+
+    fn from(why: Refused) -> u64 {
+        REFUSED + why.number()
+    }
+}
+
+/// The answer of an exported function: what it found, or its refusal.
+pub(crate) fn told(answer: Result<u64, Refused>) -> u64
+    ensures { result ≡ answer_told answer }
+{
+    answer.unwrap_or_else(u64::from)
+}
+
+impl From<SideRefused> for Refused {
+    ghost from_gives = { λ why refused. refused ≡ Side why };
+
+    fn from(side: SideRefused) -> Refused {
+        Refused::Side(side)
+    }
+}
+
+impl From<OffGrid> for Refused {
+    ghost from_gives = { λ why refused. refused ≡ AnOffGrid why };
+
+    fn from(cell: OffGrid) -> Refused {
+        Refused::OffGrid(cell)
+    }
+}
+
+impl From<Refusal> for Refused {
+    ghost from_gives = { λ why refused. refused ≡ Sheet why };
+
+    fn from(put: Refusal) -> Refused {
+        Refused::Sheet(put)
+    }
+}
+
+impl From<PileRefused> for Refused {
+    ghost from_gives = { λ why refused. refused ≡ Pile why };
+
+    fn from(pile: PileRefused) -> Refused {
+        Refused::Pile(pile)
+    }
+}
+
+impl From<WriteRefused> for Refused {
+    ghost from_gives = { λ why refused. refused ≡ Write why };
+
+    fn from(write: WriteRefused) -> Refused {
+        Refused::Write(write)
+    }
+}
+
+impl From<OpenRefused> for Refused {
+    ghost from_gives = { λ why refused. refused ≡ Open why };
+
+    fn from(open: OpenRefused) -> Refused {
+        Refused::Open(open)
+    }
+}
+
+impl From<ReadRefused> for Refused {
+    ghost from_gives = { λ why refused. refused ≡ Read why };
+
+    fn from(read: ReadRefused) -> Refused {
+        Refused::Read(read)
+    }
+}
+
+impl From<MakeRefused> for Refused {
+    ghost from_gives = { λ why refused. refused ≡ Make why };
+
+    fn from(make: MakeRefused) -> Refused {
+        Refused::Make(make)
+    }
+}
+
+impl From<PackRefused> for Refused {
+    ghost from_gives = { λ why refused. refused ≡ Pack why };
+
+    fn from(pack: PackRefused) -> Refused {
+        Refused::Pack(pack)
+    }
+}
+
+impl From<NoCode> for Refused {
+    ghost from_gives = { λ why refused. refused ≡ Code why };
+
+    fn from(code: NoCode) -> Refused {
+        Refused::Code(code)
+    }
+}
