@@ -41,8 +41,3 @@ answer_told (Err why) = refused (number why)
 abbrev pub done_told : Result (Unit {0}) Refused → ℕ
 done_told (Ok _) = 0
 done_told (Err why) = refused (number why)
-
--- the same of a reading
-abbrev pub read_told : Result (Unit {0}) ReadRefused → ℕ
-read_told (Ok _) = 0
-read_told (Err why) = refused (number (Refused.Read why))

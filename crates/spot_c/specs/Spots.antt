@@ -77,3 +77,8 @@ hits_counts side places hits = counts side places (puts hits)
 
 abbrev pub hits_refusal : ℕ → ℕ → List ℕ → Option Refusal
 hits_refusal side places hits = first_refusal side places none (puts hits)
+
+-- hits put on a new sheet with so many places and packed, on a grid if the side is one and by a make if there is one
+abbrev pub HitsTold : Bool → Result Making ℕ → ℕ → ℕ → List ℕ → ℕ → List ℕ → List ℕ → ℕ → Type 0
+HitsTold allowed make side places hits scratch out left r =
+    SpotTold (ready allowed make (hits_refusal side places hits)) side (hits_counts side places hits) scratch out left r

@@ -1,11 +1,10 @@
 //! Cell codes, for one cell and for many.
 ghost use Rattle.std.specs.Prelude.{◌≡◌, ℕ, ◌<◌, length, slice_index};
-ghost use Rattle.grid.specs.Joined.{cell_of_joined};
 ghost use Rattle.grid.specs.declared.cell.Cell.{Cell};
 ghost use Rattle.cellcode.specs.Ring.{ring};
 ghost use Rattle.cellcode.specs.Row.{row};
 ghost use Rattle.spot_c.specs.Refusals.{answer_told};
-ghost use Rattle.spot_c.specs.Told.{encoded, told as found_told, Found};
+ghost use Rattle.spot_c.specs.Told.{encoded, told as found_told, Found, EncodedEach, FoundEach};
 
 use crate::refusal::{Refused, told};
 use cellcode::{CellCode, RingCode, RowCode};
@@ -40,7 +39,8 @@ fn found(cell: Option<Cell>) -> u64
 /// Puts in the place of each number what `f` makes of it.
 fn each<F: Fn(u64) -> u64>(numbers: &mut [u64], f: F)
     requires { F.IsAlwaysCallable f }
-    ensures { (k : ℕ) → k < length numbers.old → F.post f (slice_index numbers.old k) (slice_index numbers.new k) }
+    ensures { (k : ℕ) → k < length numbers.old
+        → F.post f (slice_index numbers.old k) (slice_index numbers.new k) }
 {
     for number in numbers.iter_mut() {
         *number = f(*number);
@@ -82,7 +82,7 @@ pub extern "C" fn spot_row_decode(side: u32, px: u32, py: u32, number: u64) -> u
 /// The ring code's number of each cell, in its place.
 #[unsafe(no_mangle)]
 pub extern "C" fn spot_ring_encode_each(side: u32, px: u32, py: u32, cells: &mut [u64])
-    ensures { (k : ℕ) → k < length cells.old → slice_index cells.new k ≡ encoded ring side (record { x = px; y = py }) (cell_of_joined (slice_index cells.old k)) }
+    ensures { EncodedEach ring side (record { x = px; y = py }) cells.old cells.new }
 {
     let parent = Cell { x: px, y: py };
     each(
@@ -94,7 +94,7 @@ pub extern "C" fn spot_ring_encode_each(side: u32, px: u32, py: u32, cells: &mut
 /// The row code's number of each cell, in its place.
 #[unsafe(no_mangle)]
 pub extern "C" fn spot_row_encode_each(side: u32, px: u32, py: u32, cells: &mut [u64])
-    ensures { (k : ℕ) → k < length cells.old → slice_index cells.new k ≡ encoded row side (record { x = px; y = py }) (cell_of_joined (slice_index cells.old k)) }
+    ensures { EncodedEach row side (record { x = px; y = py }) cells.old cells.new }
 {
     let parent = Cell { x: px, y: py };
     each(
@@ -106,7 +106,7 @@ pub extern "C" fn spot_row_encode_each(side: u32, px: u32, py: u32, cells: &mut 
 /// The cell of each of the ring code's numbers, in its place.
 #[unsafe(no_mangle)]
 pub extern "C" fn spot_ring_decode_each(side: u32, px: u32, py: u32, numbers: &mut [u64])
-    ensures { (k : ℕ) → k < length numbers.old → Found ring side (record { x = px; y = py }) (slice_index numbers.old k) (slice_index numbers.new k) }
+    ensures { FoundEach ring side (record { x = px; y = py }) numbers.old numbers.new }
 {
     let parent = Cell { x: px, y: py };
     each(
@@ -118,7 +118,7 @@ pub extern "C" fn spot_ring_decode_each(side: u32, px: u32, py: u32, numbers: &m
 /// The cell of each of the row code's numbers, in its place.
 #[unsafe(no_mangle)]
 pub extern "C" fn spot_row_decode_each(side: u32, px: u32, py: u32, numbers: &mut [u64])
-    ensures { (k : ℕ) → k < length numbers.old → Found row side (record { x = px; y = py }) (slice_index numbers.old k) (slice_index numbers.new k) }
+    ensures { FoundEach row side (record { x = px; y = py }) numbers.old numbers.new }
 {
     let parent = Cell { x: px, y: py };
     each(

@@ -5,7 +5,7 @@ ghost use Rattle.numlist.specs.Fixed.{fixed};
 ghost use Rattle.numlist.specs.Lists.{most};
 ghost use Rattle.pile.specs.Piles.{pile_of};
 ghost use Rattle.spot_c.specs.Lists.{pile_write_told, pile_written, pile_open_told, ReadTold, PileReadTold};
-ghost use Rattle.spot_c.specs.Refusals.{answer_told, done_told, read_told};
+ghost use Rattle.spot_c.specs.Refusals.{answer_told, done_told};
 
 use crate::refusal::{Refused, told};
 use numlist::{Cut, Fixed, MOST_NUMBERS, NumberList, ReadRefused};
@@ -73,16 +73,17 @@ fn read(
 {
     if let [lower, upper] = *cuts {
         if let Some(list) = two_cuts(bits, lower, upper) {
-            return Ok(read_each(&list, bytes, count, places)?);
+            return read_each(&list, bytes, count, places);
         }
     }
     let pile = new_pile(bits, cuts)?;
-    Ok(read_each(&pile, bytes, count, places)?)
+    read_each(&pile, bytes, count, places)
 }
 
 /// The pile of two cuts as a type of its own, where it can be made.
 fn two_cuts(bits: u32, lower: u32, upper: u32) -> Option<Cut<Cut<Fixed>>>
-    ensures { IfSome result (λ list. pile_of bits (lower ∷ upper ∷ []) ≡ Ok (cut list.width.bits (cut list.below.width.bits (fixed list.below.below.width.bits)))) }
+    ensures { IfSome result (λ list. pile_of bits (lower ∷ upper ∷ [])
+        ≡ Ok (cut list.width.bits (cut list.below.width.bits (fixed list.below.below.width.bits)))) }
 {
     let fixed = Fixed::new(bits).ok()?;
     let low = Cut::new(lower, fixed).ok()?;
@@ -95,11 +96,12 @@ fn read_each<L: NumberList>(
     bytes: &[u8],
     count: usize,
     places: &mut [u64],
-) -> Result<(), ReadRefused>
-    ensures { (L.NumberList.meaning list.now).reach ≤ 64 → ReadTold (L.NumberList.meaning list.now) bytes.now count places.old places.new (read_told result) }
+) -> Result<(), Refused>
+    ensures { (L.NumberList.meaning list.now).reach ≤ 64
+        → ReadTold (L.NumberList.meaning list.now) bytes.now count places.old places.new (done_told result) }
 {
     if count > MOST_NUMBERS {
-        return Err(ReadRefused::TooMany);
+        return Err(Refused::Read(ReadRefused::TooMany));
     }
     let layout = list.layout(bytes, count).map_err(ReadRefused::Faulty)?;
     read_each_at(list, &layout, bytes, count, places)
@@ -112,14 +114,15 @@ fn read_each_at<L: NumberList>(
     bytes: &[u8],
     count: usize,
     places: &mut [u64],
-) -> Result<(), ReadRefused>
+) -> Result<(), Refused>
     requires few { count ≤ most }
     requires laid { L.NumberList.laid list.now bytes.now count layout.now }
-    ensures { (L.NumberList.meaning list.now).reach ≤ 64 → ReadTold (L.NumberList.meaning list.now) bytes.now count places.old places.new (read_told result) }
+    ensures { (L.NumberList.meaning list.now).reach ≤ 64
+        → ReadTold (L.NumberList.meaning list.now) bytes.now count places.old places.new (done_told result) }
 {
     for place in places.iter_mut() {
         if *place >= count as u64 {
-            return Err(ReadRefused::NoNumber);
+            return Err(Refused::Read(ReadRefused::NoNumber));
         }
         *place = list
             .read_at(layout, bytes, count, *place as usize)

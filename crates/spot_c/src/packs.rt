@@ -1,5 +1,5 @@
 //! Packing: the spot of hits that are given one by one.
-ghost use Rattle.std.specs.Prelude.{◌≡◌, true, length, Ok, is_ok};
+ghost use Rattle.std.specs.Prelude.{◌≡◌, true, length, OnOk, Ok};
 ghost use Rattle.std.specs.Result.{result_err};
 ghost use Rattle.grid.specs.Sides.{allowed};
 ghost use Rattle.pile.specs.Piles.{pile_of};
@@ -7,7 +7,7 @@ ghost use Rattle.sheet.specs.Counts.{counts_from};
 ghost use Rattle.sheet.specs.Memory.{places, hits as hits_of, tally};
 ghost use Rattle.spot.specs.Spots.{Wide, meant};
 ghost use Rattle.spot_c.specs.Refusals.{answer_told};
-ghost use Rattle.spot_c.specs.Spots.{puts, first_refusal, hits_counts, hits_refusal, code_by, made_by, ready, SpotTold};
+ghost use Rattle.spot_c.specs.Spots.{puts, first_refusal, code_by, made_by, HitsTold};
 
 use crate::code::Code;
 use crate::refusal::{Refused, told};
@@ -20,8 +20,10 @@ use spot::{Make, pack};
 
 /// Puts the hits up to the first that is refused.
 fn put_each(sheet: &mut Sheet<'_>, hits: &[u64]) -> Result<(), Refusal>
-    ensures first { result_err result ≡ first_refusal sheet.old.grid.side (places sheet.old.lent) (tally (hits_of sheet.old.lent)) (puts hits.now) }
-    ensures counts { is_ok result ≡ true → tally (hits_of sheet.new.lent) ≡ counts_from sheet.old.grid.side (places sheet.old.lent) (tally (hits_of sheet.old.lent)) (puts hits.now) }
+    ensures first { result_err result
+        ≡ first_refusal sheet.old.grid.side (places sheet.old.lent) (tally (hits_of sheet.old.lent)) (puts hits.now) }
+    ensures counts { OnOk result (tally (hits_of sheet.new.lent)
+        ≡ counts_from sheet.old.grid.side (places sheet.old.lent) (tally (hits_of sheet.old.lent)) (puts hits.now)) }
     ensures grid { sheet.new.grid ≡ sheet.old.grid }
 {
     for hit in hits {
@@ -39,7 +41,9 @@ fn pack_hits<C: CellCode, L: NumberList>(
     scratch: &mut [u64],
     out: &mut [u8],
 ) -> Result<u64, Refused>
-    ensures { Wide (meant C.CellCode.code L.NumberList.meaning make.now) → SpotTold (ready true (Ok (meant C.CellCode.code L.NumberList.meaning make.now)) (hits_refusal grid.side (length cells.old) hits.now)) grid.side (hits_counts grid.side (length cells.old) hits.now) (length scratch.old) out.old out.new (answer_told result) }
+    ensures { Wide (meant C.CellCode.code L.NumberList.meaning make.now)
+        → HitsTold true (Ok (meant C.CellCode.code L.NumberList.meaning make.now)) grid.side (length cells.old) hits.now
+            (length scratch.old) out.old out.new (answer_told result) }
 {
     let mut sheet = Sheet::new(grid, cells);
     put_each(&mut sheet, hits)?;
@@ -61,12 +65,14 @@ pub extern "C" fn spot_pack(
     scratch: &mut [u64],
     out: &mut [u8],
 ) -> u64
-    ensures { SpotTold (ready (allowed side) (made_by (code_by code) (pile_of bits cuts.now) number) (hits_refusal side (length cells.old) hits.now)) side (hits_counts side (length cells.old) hits.now) (length scratch.old) out.old out.new result }
+    ensures { HitsTold (allowed side) (made_by (code_by code) (pile_of bits cuts.now) number) side (length cells.old) hits.now
+        (length scratch.old) out.old out.new result }
 {
     told(pack_new(code, bits, cuts, number, side, hits, cells, scratch, out))
 }
 
-/// The same before it is told in one number.
+/// The same before it is told in one number. C lends the memory in three slices; they stay three, since only this function
+/// and the next take all of them, and a struct would owe its callers which slice is in which field.
 fn pack_new(
     code: u32,
     bits: u32,
@@ -78,7 +84,8 @@ fn pack_new(
     scratch: &mut [u64],
     out: &mut [u8],
 ) -> Result<u64, Refused>
-    ensures { SpotTold (ready (allowed side) (made_by (code_by code) (pile_of bits cuts.now) number) (hits_refusal side (length cells.old) hits.now)) side (hits_counts side (length cells.old) hits.now) (length scratch.old) out.old out.new (answer_told result) }
+    ensures { HitsTold (allowed side) (made_by (code_by code) (pile_of bits cuts.now) number) side (length cells.old) hits.now
+        (length scratch.old) out.old out.new (answer_told result) }
 {
     let grid = Grid::new(side)?;
     let pile = new_pile(bits, cuts)?;
