@@ -45,10 +45,6 @@ none_writes_push (x ∷ es) e idle =
     let rest = none_writes_push es e parts.1 in
     (and_from _ _ parts.0 rest.0, rest.1)
 
--- before the first call
-pub runs_none : (s : Sheet) → Runs s s [] []
-runs_none s = record { counts = refl; answers = refl; calls = refl; left = λ idle. refl; behind = refl; lent = refl; places = refl; grid = refl }
-
 -- after the calls of the entries asked, one call more
 module _ {start before after : Sheet} {asked answered : List Entry} (runs : Runs start before asked answered)
     (e : Entry) (r : Result ℕ Refusal) (does : Does before after e.call r) where
