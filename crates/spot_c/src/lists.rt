@@ -1,14 +1,13 @@
 //! Number lists: piles that are given by their widths.
-ghost use Rattle.std.specs.Prelude.{◌≡◌, ◌≤◌, [], ◌∷◌, length, IfSome, Ok};
+ghost use Rattle.std.specs.Prelude.{◌≡◌, [], ◌∷◌, length, IfSome, Ok};
 ghost use Rattle.numlist.specs.Cuts.{cut};
 ghost use Rattle.numlist.specs.Fixed.{fixed};
-ghost use Rattle.numlist.specs.Lists.{most};
 ghost use Rattle.pile.specs.Piles.{pile_of};
 ghost use Rattle.spot_c.specs.Lists.{pile_write_told, pile_written, pile_open_told, ReadTold, PileReadTold};
 ghost use Rattle.spot_c.specs.Refusals.{answer_told, done_told};
 
 use crate::refusal::{Refused, told};
-use numlist::{Cut, Fixed, MOST_NUMBERS, NumberList, ReadRefused};
+use numlist::{Count, Cut, Fixed, NumberList, ReadRefused};
 use pile::new_pile;
 
 /// Writes the string of the numbers at the front of the bytes, by a fixed list of so many bits under cuts of these
@@ -97,13 +96,10 @@ fn read_each<L: NumberList>(
     count: usize,
     places: &mut [u64],
 ) -> Result<(), Refused>
-    ensures { (L.NumberList.meaning list.now).reach ≤ 64
-        → ReadTold (L.NumberList.meaning list.now) bytes.now count places.old places.new (done_told result) }
+    ensures { ReadTold (L.NumberList.meaning list.now) bytes.now count places.old places.new (done_told result) }
 {
-    if count > MOST_NUMBERS {
-        return Err(Refused::Read(ReadRefused::TooMany));
-    }
-    let layout = list.layout(bytes, count).map_err(ReadRefused::Faulty)?;
+    let count = Count::new(count).ok_or(ReadRefused::TooMany)?;
+    let layout = list.layout(bytes, count).map_err(ReadRefused::from)?;
     read_each_at(list, &layout, bytes, count, places)
 }
 
@@ -112,21 +108,19 @@ fn read_each_at<L: NumberList>(
     list: &L,
     layout: &L::Layout,
     bytes: &[u8],
-    count: usize,
+    count: Count,
     places: &mut [u64],
 ) -> Result<(), Refused>
-    requires few { count ≤ most }
-    requires laid { L.NumberList.laid list.now bytes.now count layout.now }
-    ensures { (L.NumberList.meaning list.now).reach ≤ 64
-        → ReadTold (L.NumberList.meaning list.now) bytes.now count places.old places.new (done_told result) }
+    requires { L.NumberList.laid list.now bytes.now count.numbers layout.now }
+    ensures { ReadTold (L.NumberList.meaning list.now) bytes.now count.numbers places.old places.new (done_told result) }
 {
     for place in places.iter_mut() {
-        if *place >= count as u64 {
+        if *place >= count.get() as u64 {
             return Err(Refused::Read(ReadRefused::NoNumber));
         }
         *place = list
             .read_at(layout, bytes, count, *place as usize)
-            .map_err(ReadRefused::Faulty)?;
+            .map_err(ReadRefused::from)?;
     }
     Ok(())
 }

@@ -5,7 +5,7 @@ ghost use Rattle.grid.specs.Sides.{allowed};
 ghost use Rattle.pile.specs.Piles.{pile_of};
 ghost use Rattle.sheet.specs.Counts.{counts_from};
 ghost use Rattle.sheet.specs.Memory.{places, hits as hits_of, tally};
-ghost use Rattle.spot.specs.Spots.{Wide, meant};
+ghost use Rattle.spot.specs.Spots.{meant};
 ghost use Rattle.spot_c.specs.Refusals.{answer_told};
 ghost use Rattle.spot_c.specs.Spots.{puts, first_refusal, code_by, made_by, HitsTold};
 
@@ -41,9 +41,8 @@ fn pack_hits<C: CellCode, L: NumberList>(
     scratch: &mut [u64],
     out: &mut [u8],
 ) -> Result<u64, Refused>
-    ensures { Wide (meant C.CellCode.code L.NumberList.meaning make.now)
-        → HitsTold true (Ok (meant C.CellCode.code L.NumberList.meaning make.now)) grid.side (length cells.old) hits.now
-            (length scratch.old) out.old out.new (answer_told result) }
+    ensures { HitsTold true (Ok (meant make.now)) grid.side (length cells.old) hits.now
+        (length scratch.old) out.old out.new (answer_told result) }
 {
     let mut sheet = Sheet::new(grid, cells);
     put_each(&mut sheet, hits)?;

@@ -41,16 +41,16 @@ impl Refused {
     {
         match self {
             Refused::Side(why) => u64::from(u8::from(why)),
-            Refused::OffGrid(why) => u64::from(why.number()),
-            Refused::Sheet(why) => u64::from(why.number()),
-            Refused::Pile(why) => u64::from(why.number()),
-            Refused::Write(why) => u64::from(why.number()),
+            Refused::OffGrid(why) => u64::from(u8::from(why)),
+            Refused::Sheet(why) => u64::from(u8::from(why)),
+            Refused::Pile(why) => u64::from(u8::from(why)),
+            Refused::Write(why) => u64::from(u8::from(why)),
             Refused::Open(OpenRefused::Faulty(fault)) => fault_number(fault),
-            Refused::Open(why) => u64::from(why.number()),
+            Refused::Open(why) => u64::from(u8::from(why)),
             Refused::Read(ReadRefused::Faulty(fault)) => fault_number(fault),
-            Refused::Read(why) => u64::from(why.number()),
-            Refused::Make(why) => u64::from(why.number()),
-            Refused::Pack(why) => u64::from(why.number()),
+            Refused::Read(why) => u64::from(u8::from(why)),
+            Refused::Make(why) => u64::from(u8::from(why)),
+            Refused::Pack(why) => u64::from(u8::from(why)),
             Refused::Code(NoCode) => 11,
         }
     }
@@ -61,7 +61,7 @@ fn fault_number(fault: ListFault) -> u64
     ensures value { result ≡ fault_number fault }
     ensures small { result < 2 ^ 32 }
 {
-    13 + 256 * u64::from(fault.test.number()) + 65_536 * fault.level.min(255) as u64
+    13 + 256 * u64::from(u8::from(fault.test)) + 65_536 * fault.level.min(255) as u64
 }
 
 /// A refusal in one number that is no answer.
