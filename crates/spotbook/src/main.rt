@@ -1,7 +1,7 @@
 //! Reads commands from standard input and writes a reply to each.
 #![tactic(auto)]
 
-use book::{most_input, replies};
+use book::{MOST_INPUT, replies};
 use std::io::{Read, Write};
 
 /// Replies to what stands on standard input, as far as it is read.
@@ -9,7 +9,7 @@ fn run(rt: &HostRuntime) -> anyhow::Result<()> {
     let heap = rt.alloc();
     let mut input = Vec::new(heap);
     rt.stdin()
-        .take(most_input() as u64)
+        .take(MOST_INPUT as u64)
         .read_to_end(&mut input)?;
     // once to count the bytes of the replies, and once to write them
     let len = replies(input.as_slice(), &mut []);

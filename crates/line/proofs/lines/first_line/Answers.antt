@@ -1,7 +1,6 @@
-use Rattle.std.proofs.Common.{◌≡◌, ◌<◌, ◌+◌, ◌-◌, ◌∷◌, [], length, take, drop, true, false, eqb, MatchOption, sym, ap, ◌∙◌, arith, rules, tests, take_all, length-drop}
+use Rattle.std.proofs.Common.{◌≡◌, true, false, eqb, arith, rules, tests}
 use Rattle.std.proofs.lemmas.Iterator.{YieldsList-from_slice, IsFirst-from_position}
 use Rattle.std.proofs.lemmas.Grind.{common_steps}
-use Rattle.line.specs.Pieces.{lines}
 use Rattle.line.proofs.Splitting.{first_line}
 use Rattle.line.proofs.lines.first_line.Goals as goal
 

@@ -1,7 +1,7 @@
-use Rattle.std.proofs.Common.{◌≡◌, ◌+◌, ◌<◌, get_or, drop, ◌∷◌, None, sym, ap, ◌∙◌, arith}
+use Rattle.std.proofs.Common.{◌+◌, get_or, drop, sym, ap, ◌∙◌, arith}
 use Rattle.std.proofs.lemmas.Bool.{eqb-false}
 use Rattle.std.proofs.lemmas.List.{at_drop_more, at_drop_all}
-use Rattle.line.specs.Grammar.{followed, spelled}
+use Rattle.line.specs.Grammar.{followed}
 use Rattle.line.proofs.Digits.{spelled_some, followed_end, followed_more, followed_none}
 use Rattle.line.proofs.words.spelled.Goals as goal
 
