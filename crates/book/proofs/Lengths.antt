@@ -1,5 +1,5 @@
 -- No session is longer than can be counted. Assumes nothing.
-use Rattle.std.proofs.Common.{◌≡◌, ℕ, zero, suc, ◌+◌, ◌-◌, ◌*◌, ◌/◌, ◌%◌, ◌^◌, ◌<◌, ◌≤◌, Bool, true, false, cond, eqb, List, [], ◌∷◌, ◌++◌, length, take, Some, None, Option, Ok, Err, Result, refl, ap, arith, length-append, length-take}
+use Rattle.std.proofs.Common.{◌≡◌, ℕ, zero, suc, ◌+◌, ◌*◌, ◌/◌, ◌%◌, ◌^◌, ◌<◌, ◌≤◌, Bool, true, false, cond, eqb, List, [], ◌∷◌, ◌++◌, length, take, Some, None, Option, Ok, Err, Result, refl, ap, arith, length-append, length-take}
 use Rattle.std.specs.Fmt.{digits, digits_onto, decimal, digit_glyph}
 use Rattle.line.specs.Grammar.{understood}
 use Rattle.line.specs.Pieces.{pieces, piece_ends, piece_grows, without_empty_end, lines}

@@ -1,4 +1,4 @@
-use Rattle.std.proofs.Common.{◌≡◌, ◌+◌, ◌-◌, ◌++◌, take, drop, ap, ◌∙◌, refl, arith}
+use Rattle.std.proofs.Common.{◌+◌, ◌++◌, take, ◌∙◌, refl, arith}
 use borrow.Rule.Slice.PartMut.{Post-is}
 use Rattle.book.proofs.Writing.{laid_copied}
 use Rattle.book.proofs.page.Page.write.Goals as goal

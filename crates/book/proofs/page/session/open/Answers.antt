@@ -1,4 +1,4 @@
-use Rattle.std.proofs.Common.{◌≡◌, Ok, Err, None, Result, sym, ap, ◌∙◌, subst, rules}
+use Rattle.std.proofs.Common.{◌≡◌, ap, ◌∙◌, subst, rules}
 use Rattle.line.specs.Pieces.{lines}
 use Rattle.book.specs.Outcomes.{outcome_of_grid}
 use Rattle.book.specs.Pages.{Part}
