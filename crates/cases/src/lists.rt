@@ -5,40 +5,24 @@ use std::test::Fail;
 /// Whether the numbers come back out of a list.
 fn do_come_back<L: NumberList>(list: &L, numbers: &[u64]) -> bool {
     let mut out = [165; 64];
-    match comes_back(list, numbers, &mut out) {
-        Ok(all) => all,
-        Err(_) => false,
-    }
+    comes_back(list, numbers, &mut out) == Ok(true)
 }
 
 /// A cut of 3 bits over one of 2 over a fixed list of 4.
 fn three_levels() -> Option<Cut<Cut<Fixed>>> {
-    let Ok(fixed) = Fixed::new(4) else {
-        return None;
-    };
-    let Ok(lower) = Cut::new(2, fixed) else {
-        return None;
-    };
-    match Cut::new(3, lower) {
-        Ok(upper) => Some(upper),
-        Err(_) => None,
-    }
+    let fixed = Fixed::new(4).ok()?;
+    let lower = Cut::new(2, fixed).ok()?;
+    Cut::new(3, lower).ok()
 }
 
 #[test]
 fn numbers_come_back(rt: HostRuntime) -> Result<(), Fail> {
-    let Ok(fixed) = Fixed::new(26) else {
-        return Err(Fail::new("a fixed list of 26 bits"));
-    };
+    let fixed = Fixed::new(26).map_err(|_| Fail::new("a fixed list of 26 bits"))?;
     assert!(rt; do_come_back(&fixed, &[67_108_863, 0, 1, 25, 67_108_863]));
-    let Some(two) = three_levels() else {
-        return Err(Fail::new("two cuts"));
-    };
+    let two = three_levels().ok_or_else(|| Fail::new("two cuts"))?;
     assert!(rt; do_come_back(&two, &[25, 2, 70, 10, 511, 0, 8, 7]));
     assert!(rt; !do_come_back(&two, &[25, 512]));
-    let Ok(three) = Cut::new(16, two) else {
-        return Err(Fail::new("three cuts"));
-    };
+    let three = Cut::new(16, two).map_err(|_| Fail::new("three cuts"))?;
     assert!(rt; do_come_back(&three, &[33_554_431, 65_535, 65_536, 0, 524_288, 1]));
     Ok(())
 }
@@ -57,7 +41,9 @@ fn fault_of(length: usize, place: usize, byte: u8) -> usize {
     match list.open(&bytes[0..length], 4) {
         Ok(_) => 0,
         Err(OpenRefused::TooMany) => 99,
-        Err(OpenRefused::Faulty(fault)) => 10 * fault.level.min(8) + fault.test.number() as usize,
+        Err(OpenRefused::Faulty(fault)) => {
+            10 * fault.level.min(8) + usize::from(u8::from(fault.test))
+        }
     }
 }
 
@@ -77,8 +63,7 @@ fn each_test_fails_at_each_level(rt: HostRuntime) {
         (13, 0, 145, 21),
         (14, 13, 18, 22),
     ];
-    for i in 0..12 {
-        let (length, place, byte, fault) = cases[i];
+    for (length, place, byte, fault) in cases {
         assert_eq!(rt; fault_of(length, place, byte), fault);
     }
 }
