@@ -13,8 +13,9 @@ pub record Looked (xs : List ℕ) (m : ℕ) (old new : List ℕ) (k : ℕ) : Typ
 
 -- the next one is replaced
 pub looked_more :
-    (xs : List ℕ) (m : ℕ) (old new : List ℕ) (k v : ℕ) → Looked xs m old new k → k < length new → get_or new k 0 < m
-    → v ≡ get_or xs (get_or new k 0) 0 → Looked xs m old (set new k v) (k + 1)
+    (xs : List ℕ) (m : ℕ) (old new : List ℕ) (k v : ℕ)
+    → Looked xs m old new k → k < length new → get_or new k 0 < m → v ≡ get_or xs (get_or new k 0) 0
+    → Looked xs m old (set new k v) (k + 1)
 looked_more xs m old new k v before here within is =
     let next : drop k new ≡ get_or new k 0 ∷ drop (k + 1) new = drop_more new k 0 here in
     let same : drop (k + 1) (set new k v) ≡ drop (k + 1) new = drop-set-lt (k + 1) new k v (omega arith) in
@@ -26,7 +27,8 @@ looked_more xs m old new k v before here within is =
     }
 
 -- a number of a list that reaches 64 bits at most has no more
-pub whole : (reach : ℕ) (xs : List ℕ) (i : ℕ) → reach ≤ 64 → Narrow reach xs → i < length xs → get_or xs i 0 % 2 ^ 64 ≡ get_or xs i 0
+pub whole :
+    (reach : ℕ) (xs : List ℕ) (i : ℕ) → reach ≤ 64 → Narrow reach xs → i < length xs
+    → get_or xs i 0 % 2 ^ 64 ≡ get_or xs i 0
 whole reach xs i wide narrow here =
-    let small : get_or xs i 0 < 2 ^ 64 = lt_of_lt_of_le (All-get_or (λ y. y < 2 ^ reach) xs i 0 here narrow) (pow_mono wide) in
-    mod-eq_of_lt small
+    mod-eq_of_lt (lt_of_lt_of_le (All-get_or (λ y. y < 2 ^ reach) xs i 0 here narrow) (pow_mono wide))

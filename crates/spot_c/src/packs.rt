@@ -64,14 +64,14 @@ pub extern "C" fn spot_pack(
     scratch: &mut [u64],
     out: &mut [u8],
 ) -> u64
-    ensures { HitsTold (allowed side) (made_by (code_by code) (pile_of bits cuts.now) number) side (length cells.old) hits.now
-        (length scratch.old) out.old out.new result }
+    ensures { HitsTold (allowed side) (made_by (code_by code) (pile_of bits cuts.now) number) side (length cells.old)
+        hits.now (length scratch.old) out.old out.new result }
 {
     told(pack_new(code, bits, cuts, number, side, hits, cells, scratch, out))
 }
 
-/// The same before it is told in one number. C lends the memory in three slices; they stay three, since only this function
-/// and the next take all of them, and a struct would owe its callers which slice is in which field.
+/// The same before it is told in one number. The memory stays three slices, as C lends it: beside this function only
+/// `pack_hits` takes them all, and a struct of them would owe in each contract that its fields still lend what they lent.
 fn pack_new(
     code: u32,
     bits: u32,
@@ -83,8 +83,8 @@ fn pack_new(
     scratch: &mut [u64],
     out: &mut [u8],
 ) -> Result<u64, Refused>
-    ensures { HitsTold (allowed side) (made_by (code_by code) (pile_of bits cuts.now) number) side (length cells.old) hits.now
-        (length scratch.old) out.old out.new (answer_told result) }
+    ensures { HitsTold (allowed side) (made_by (code_by code) (pile_of bits cuts.now) number) side (length cells.old)
+        hits.now (length scratch.old) out.old out.new (answer_told result) }
 {
     let grid = Grid::new(side)?;
     let pile = new_pile(bits, cuts)?;
