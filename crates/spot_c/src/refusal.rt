@@ -2,7 +2,7 @@
 ghost use Rattle.std.specs.Prelude.{◌≡◌, ◌^◌, ◌<◌};
 ghost use Rattle.spot_c.specs.Lists.{refused};
 ghost use Rattle.spot_c.specs.Refusals.{fault_number, number, answer_told};
-ghost use Rattle.spot_c.specs.declared.refusal.Refused.TheVariants.{Side, OffGrid as AnOffGrid, Sheet, Pile, Write, Open, Read, Make, Pack, Code};
+ghost use Rattle.spot_c.specs.declared.refusal.Refused.{Refused};
 
 use cellcode::OffGrid;
 use grid::SideRefused;
@@ -81,7 +81,7 @@ pub(crate) fn told(answer: Result<u64, Refused>) -> u64
 }
 
 impl From<SideRefused> for Refused {
-    ghost from_gives = { λ why refused. refused ≡ Side why };
+    ghost from_gives = { λ why whole. whole ≡ Refused.Side why };
 
     fn from(side: SideRefused) -> Refused {
         Refused::Side(side)
@@ -89,7 +89,7 @@ impl From<SideRefused> for Refused {
 }
 
 impl From<OffGrid> for Refused {
-    ghost from_gives = { λ why refused. refused ≡ AnOffGrid why };
+    ghost from_gives = { λ why whole. whole ≡ Refused.OffGrid why };
 
     fn from(cell: OffGrid) -> Refused {
         Refused::OffGrid(cell)
@@ -97,7 +97,7 @@ impl From<OffGrid> for Refused {
 }
 
 impl From<Refusal> for Refused {
-    ghost from_gives = { λ why refused. refused ≡ Sheet why };
+    ghost from_gives = { λ why whole. whole ≡ Refused.Sheet why };
 
     fn from(put: Refusal) -> Refused {
         Refused::Sheet(put)
@@ -105,7 +105,7 @@ impl From<Refusal> for Refused {
 }
 
 impl From<PileRefused> for Refused {
-    ghost from_gives = { λ why refused. refused ≡ Pile why };
+    ghost from_gives = { λ why whole. whole ≡ Refused.Pile why };
 
     fn from(pile: PileRefused) -> Refused {
         Refused::Pile(pile)
@@ -113,7 +113,7 @@ impl From<PileRefused> for Refused {
 }
 
 impl From<WriteRefused> for Refused {
-    ghost from_gives = { λ why refused. refused ≡ Write why };
+    ghost from_gives = { λ why whole. whole ≡ Refused.Write why };
 
     fn from(write: WriteRefused) -> Refused {
         Refused::Write(write)
@@ -121,7 +121,7 @@ impl From<WriteRefused> for Refused {
 }
 
 impl From<OpenRefused> for Refused {
-    ghost from_gives = { λ why refused. refused ≡ Open why };
+    ghost from_gives = { λ why whole. whole ≡ Refused.Open why };
 
     fn from(open: OpenRefused) -> Refused {
         Refused::Open(open)
@@ -129,7 +129,7 @@ impl From<OpenRefused> for Refused {
 }
 
 impl From<ReadRefused> for Refused {
-    ghost from_gives = { λ why refused. refused ≡ Read why };
+    ghost from_gives = { λ why whole. whole ≡ Refused.Read why };
 
     fn from(read: ReadRefused) -> Refused {
         Refused::Read(read)
@@ -137,7 +137,7 @@ impl From<ReadRefused> for Refused {
 }
 
 impl From<MakeRefused> for Refused {
-    ghost from_gives = { λ why refused. refused ≡ Make why };
+    ghost from_gives = { λ why whole. whole ≡ Refused.Make why };
 
     fn from(make: MakeRefused) -> Refused {
         Refused::Make(make)
@@ -145,7 +145,7 @@ impl From<MakeRefused> for Refused {
 }
 
 impl From<PackRefused> for Refused {
-    ghost from_gives = { λ why refused. refused ≡ Pack why };
+    ghost from_gives = { λ why whole. whole ≡ Refused.Pack why };
 
     fn from(pack: PackRefused) -> Refused {
         Refused::Pack(pack)
@@ -153,7 +153,7 @@ impl From<PackRefused> for Refused {
 }
 
 impl From<NoCode> for Refused {
-    ghost from_gives = { λ why refused. refused ≡ Code why };
+    ghost from_gives = { λ why whole. whole ≡ Refused.Code why };
 
     fn from(code: NoCode) -> Refused {
         Refused::Code(code)
