@@ -15,11 +15,11 @@ use spot::{MakeRefused, PackRefused};
 const REFUSED: u64 = 1 << 63;
 
 /// No cell code has the number.
-#[derive(Clone, Copy)]
+#[derive(Clone, Copy, Debug, PartialEq, Eq)]
 pub(crate) struct NoCode;
 
 /// Why an exported function refuses: the refusal of the layer that it asked.
-#[derive(Clone, Copy)]
+#[derive(Clone, Copy, Debug, PartialEq, Eq)]
 pub(crate) enum Refused {
     Side(SideRefused),
     OffGrid(OffGrid),
