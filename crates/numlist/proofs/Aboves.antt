@@ -1,15 +1,14 @@
 -- The numbers that a list k bits up has, one by one. Assumes nothing.
-use Rattle.std.proofs.Common.{◌≡◌, ℕ, zero, suc, ◌+◌, ◌*◌, ◌/◌, ◌%◌, ◌^◌, ◌<◌, ◌≤◌, true, cond, ltb, List, [], ◌∷◌, ◌++◌, map, length, get_or, take, drop, Some, None, sum, filter, Option, sym, refl, ap, ◌∙◌, inl, inr, ⊎_elim, mod-eq_of_lt, mul-le-mul_left, arith, length-append, take-append-drop, pow_pos, w64, Fits}
+use Rattle.std.proofs.Common.{◌≡◌, ℕ, zero, suc, ◌+◌, ◌*◌, ◌/◌, ◌^◌, ◌<◌, ◌≤◌, min, true, ◌&&◌, not, eqb, ltb, List, [], ◌∷◌, ◌++◌, map, length, get_or, take, drop, Some, None, filter, Option, sym, refl, ap, ◌∙◌, inl, inr, ⊎_elim, mod-eq_of_lt, mul-le-mul_left, arith, length-append, take-append-drop, pow_mono, w64, Fits}
 use native.Mathlib.Nat.{div-eq_of_lt}
-use Rattle.std.proofs.lemmas.Nat.{le-div}
 use Rattle.std.proofs.lemmas.List.Elements.{filter-append}
 use Rattle.std.proofs.ByRecursion.{All-from_get_or}
-use Rattle.std.proofs.lemmas.List.{map-append, map_push, take_more}
-use Rattle.std.proofs.lemmas.List.Sums.{sum_by-append}
-use Rattle.std.proofs.lemmas.Bool.{cases_Bool, lt-leb, cases_lt, le-leb, ltb-true, and_parts}
+use Rattle.std.proofs.lemmas.List.{map-append, take_more}
+use Rattle.std.proofs.lemmas.Bool.{cases_Bool, lt-leb, cases_lt, le-leb, le-ltb, lt-ltb, ltb-true, and_parts}
 use Rattle.bits.specs.Packing.{Narrow, room}
+use Rattle.bits.proofs.Words.{none_above}
 use Rattle.numlist.specs.Calls.{narrow}
-use Rattle.numlist.specs.Parts.{above, part_of, listed, lows, marked, marks}
+use Rattle.numlist.specs.Parts.{above, part_of, listed, lows, marked}
 
 pub above-append : (k : ℕ) (xs ys : List ℕ) → above k (xs ++ ys) ≡ above k xs ++ above k ys
 above-append zero xs ys = refl
@@ -71,23 +70,13 @@ part_some (suc k) x some high =
     (λ h. sym (rw (le-leb (2 ^ suc k) x h) refl))
     (cases_lt x (2 ^ suc k))
 
-pub lows_push : (w : ℕ) (xs : List ℕ) (y : ℕ) → lows w (xs ++ y ∷ []) ≡ lows w xs ++ y % 2 ^ w ∷ []
-lows_push w xs y = map_push (λ x. x % 2 ^ w) xs y
-
 pub are_words : (xs : List ℕ) → ((i : ℕ) → Fits w64 (get_or xs i 0)) → Narrow 64 xs
 are_words xs fits = All-from_get_or (λ x. x < 2 ^ 64) xs 0 (λ i h. (fits i).fits)
 
-pub marks_push : (b : ℕ) (xs : List ℕ) (y : ℕ) → marks b (xs ++ y ∷ []) ≡ marks b xs ++ cond (marked b y) 1 0 ∷ []
-marks_push b xs y = map_push (λ x. cond (marked b x) 1 0) xs y
-
-pub mark_of : (b x : ℕ) → (x / 2 ^ b ≡ 0 → 0 ≡ cond {A = ℕ} (marked b x) 1 0) × ((x / 2 ^ b ≡ 0 → ⊥) → 1 ≡ cond {A = ℕ} (marked b x) 1 0)
-mark_of b x =
-    ⊎_elim
-    (λ h. ((λ e. sym (rw (lt-leb (2 ^ b) x h) refl)), (λ high. absurd (high (div-eq_of_lt h)))))
-    (λ h. let some : 1 ≤ x / 2 ^ b = le-div 1 x (2 ^ b) (pow_pos b) (omega arith) in
-    ((λ e. absurd (omega arith)), (λ high. sym (rw (le-leb (2 ^ b) x h) refl))))
+pub marked_high_bits : (b x : ℕ) → not (eqb (x / 2 ^ b) 0) ≡ marked b x
+marked_high_bits b x =
+    ap not (none_above x b)
+    ∙ ⊎_elim
+    (λ h. ap not (lt-ltb x (2 ^ b) h) ∙ sym (lt-leb (2 ^ b) x h))
+    (λ h. ap not (le-ltb x (2 ^ b) h) ∙ sym (le-leb (2 ^ b) x h))
     (cases_lt x (2 ^ b))
-
-pub sum-marks-append : (b : ℕ) (xs ys : List ℕ) → sum (marks b (xs ++ ys)) ≡ sum (marks b xs) + sum (marks b ys)
-sum-marks-append b xs ys =
-    ap sum (map-append (λ x. cond (marked b x) 1 0) xs ys) ∙ sum_by-append (λ x. x) (marks b xs) (marks b ys)

@@ -7,9 +7,9 @@ ghost use Rattle.numlist.specs.Lists.{most};
 ghost use Rattle.numlist.specs.Placed.{Placed};
 ghost use Rattle.numlist.specs.CutSound.{cut_sound};
 
-use crate::parts::{count, put_directory_at, put_lows, put_marks_at};
+use crate::parts::put_directory;
 use crate::places::Sections;
-use crate::{Count, CutRefused, ListFault, NumberList, Places, Test};
+use crate::{Above, Count, CutRefused, ListFault, NumberList, Places, Test};
 use bits::Width;
 use std::alloc::AllocError;
 
@@ -61,15 +61,6 @@ impl<L: NumberList + Copy> Cut<L> {
     }
 }
 
-// The bits that the list below skips, where numbers have 64.
-fn deeper(skip: u32, width: Width) -> u32
-    requires { skip ≤ 64 }
-    ensures value { result ≡ min 64 (skip + width.bits) }
-    ensures most { result ≤ 64 }
-{
-    (skip + width.bits()).min(64)
-}
-
 impl<L: NumberList> NumberList for Cut<L> {
     type Layout = CutLayout<L::Layout>;
 
@@ -85,34 +76,26 @@ impl<L: NumberList> NumberList for Cut<L> {
         self.width.bits() + self.below.reach()
     }
 
-    fn size(&self, numbers: &[u64], skip: u32) -> usize {
-        let places = Places::new(
-            self.width,
-            Count {
-                numbers: count(numbers, skip),
-            },
-        );
+    fn size(&self, numbers: &Above<'_>) -> usize {
+        let places = Places::new(self.width, numbers.count());
         places
             .below
-            .saturating_add(self.below.size(numbers, deeper(skip, self.width)))
+            .saturating_add(self.below.size(&numbers.higher(self.width)))
     }
 
-    fn put(&self, numbers: &[u64], skip: u32, out: &mut [u8]) {
-        let places = Places::new(
-            self.width,
-            Count {
-                numbers: count(numbers, skip),
-            },
-        );
-        let at = places.below;
-        if out.len() < at {
+    fn put(&self, numbers: &Above<'_>, out: &mut [u8]) {
+        let count = numbers.count();
+        let places = Places::new(self.width, count);
+        if out.len() < places.below {
             return;
         }
-        put_lows(numbers, skip, self.width, out);
-        put_marks_at(numbers, skip, self.width, places.marks, out);
-        put_directory_at(numbers, skip, self.width, places.directory, out);
-        self.below
-            .put(numbers, deeper(skip, self.width), &mut out[at..]);
+        let (own, below) = out.split_at_mut(places.below);
+        let (lows, own) = own.split_at_mut(places.marks);
+        let (marks, directory) = own.split_at_mut(places.directory - places.marks);
+        numbers.put_lows(self.width, lows);
+        numbers.put_marks(self.width, marks);
+        put_directory(marks, count, directory);
+        self.below.put(&numbers.higher(self.width), below);
     }
 
     fn judge(&self, bytes: &[u8], count: Count) -> Result<usize, ListFault> {

@@ -5,8 +5,7 @@ ghost use Rattle.bits.specs.Widths.{allowed};
 ghost use Rattle.numlist.specs.Fixed.{fixed};
 ghost use Rattle.numlist.specs.FixedSound.{fixed_sound, fixed_within};
 
-use crate::parts::{count, put_lows};
-use crate::{Count, ListFault, NumberList, Test, WidthRefused};
+use crate::{Above, Count, ListFault, NumberList, Test, WidthRefused};
 use bits::{Width, is_filled, read};
 
 /// Numbers of the same width, one after another.
@@ -58,17 +57,12 @@ impl NumberList for Fixed {
         self.width.bits()
     }
 
-    fn size(&self, numbers: &[u64], skip: u32) -> usize {
-        room(
-            self.width,
-            Count {
-                numbers: count(numbers, skip),
-            },
-        )
+    fn size(&self, numbers: &Above<'_>) -> usize {
+        room(self.width, numbers.count())
     }
 
-    fn put(&self, numbers: &[u64], skip: u32, out: &mut [u8]) {
-        put_lows(numbers, skip, self.width, out);
+    fn put(&self, numbers: &Above<'_>, out: &mut [u8]) {
+        numbers.put_lows(self.width, out);
     }
 
     fn judge(&self, bytes: &[u8], count: Count) -> Result<usize, ListFault> {

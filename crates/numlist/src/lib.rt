@@ -1,6 +1,7 @@
 //! Number lists: many numbers as one string of bytes.
 #![tactic(auto)]
 
+mod above;
 mod count;
 mod cut;
 mod fault;
@@ -11,6 +12,7 @@ mod places;
 mod refusal;
 mod trip;
 
+pub use above::Above;
 pub use count::Count;
 pub use cut::{Cut, CutLayout, MOST_CUT_BITS};
 pub use fault::{ListFault, Test};

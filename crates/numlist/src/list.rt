@@ -4,11 +4,10 @@ ghost use Rattle.bits.specs.Packing.{Narrow};
 ghost use Rattle.numlist.specs.Calls.{write_answer, written, open_answer};
 ghost use Rattle.numlist.specs.Cuts.{nonzero};
 ghost use Rattle.numlist.specs.Lists.{Meaning, Sound, most};
-ghost use Rattle.numlist.specs.Parts.{above};
 ghost use Rattle.numlist.specs.Refusals.{read_number};
 
 use crate::parts::is_narrow;
-use crate::{Count, ListFault, OpenRefused, ReadRefused, WriteRefused};
+use crate::{Above, Count, ListFault, OpenRefused, ReadRefused, WriteRefused};
 
 /// The most numbers of a list.
 pub const MOST_NUMBERS: usize = 1_048_576;
@@ -16,8 +15,7 @@ pub const MOST_NUMBERS: usize = 1_048_576;
 /// A way to make one string of bytes of many numbers, and to read them in it.
 ///
 /// `write`, `open`, `read` and `reach` are for everyone. The other calls are what a list built over another one
-/// asks of it. Some take numbers with a `skip`: that is, in place of each number its bits above the lowest `skip`, zeros left
-/// out.
+/// asks of it.
 pub trait NumberList {
     /// Where the sections of a string lie, found one time for many reads.
     type Layout: Copy;
@@ -31,16 +29,12 @@ pub trait NumberList {
         ensures { result ≡ (meaning self.now).reach };
 
     /// The bytes that the string of the numbers takes, or as many as can be told.
-    fn size(&self, numbers: &[u64], skip: u32) -> usize
-        requires skip { skip ≤ 64 }
-        requires few { length numbers.now ≤ most }
-        ensures { result ≡ min (2 ^ 64 - 1) (length ((meaning self.now).string (above skip numbers.now))) };
+    fn size(&self, numbers: &Above<'_>) -> usize
+        ensures { result ≡ min (2 ^ 64 - 1) (length ((meaning self.now).string numbers.now)) };
 
     /// Puts the string of the numbers at the front of bytes that have room for it.
-    fn put(&self, numbers: &[u64], skip: u32, out: &mut [u8])
-        requires skip { skip ≤ 64 }
-        requires few { length numbers.now ≤ most }
-        ensures { Narrow (meaning self.now).reach (above skip numbers.now) → length ((meaning self.now).string (above skip numbers.now)) ≤ length out.old → out.new ≡ (meaning self.now).string (above skip numbers.now) ++ drop (length ((meaning self.now).string (above skip numbers.now))) out.old };
+    fn put(&self, numbers: &Above<'_>, out: &mut [u8])
+        ensures { Narrow (meaning self.now).reach numbers.now → length ((meaning self.now).string numbers.now) ≤ length out.old → out.new ≡ (meaning self.now).string numbers.now ++ drop (length ((meaning self.now).string numbers.now)) out.old };
 
     /// The bytes of the string of so many numbers with which bytes begin, or their first fault.
     fn judge(&self, bytes: &[u8], count: Count) -> Result<usize, ListFault>
@@ -73,17 +67,17 @@ pub trait NumberList {
         ensures answer { result ≡ write_answer (meaning self.now) numbers.now (length out.old) }
         ensures bytes { out.new ≡ written (meaning self.now) numbers.now out.old (is_ok result) }
     {
-        if numbers.len() > MOST_NUMBERS {
+        let Some(all) = Above::new(numbers) else {
             return Err(WriteRefused::TooMany);
-        }
+        };
         if !is_narrow(numbers, self.reach()) {
             return Err(WriteRefused::TooLarge);
         }
-        let size = self.size(numbers, 0);
+        let size = self.size(&all);
         if size > out.len() {
             return Err(WriteRefused::NoRoom);
         }
-        self.put(numbers, 0, out);
+        self.put(&all, out);
         Ok(size)
     }
 

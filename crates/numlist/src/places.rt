@@ -24,7 +24,7 @@ impl Places {
         ensures { Placed width.bits count.numbers result }
     {
         let marks = room(width, count);
-        let directory = marks + room(Width::mark(), count);
+        let directory = marks + room(Width::MARK, count);
         Places {
             marks,
             directory,
@@ -99,7 +99,7 @@ impl<'a> Sections<'a> {
         read(
             self.bytes,
             8 * self.places.directory + 32 * group,
-            Width::count(),
+            Width::COUNT,
         ) as usize
     }
 

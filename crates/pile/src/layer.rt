@@ -3,7 +3,7 @@ ghost use Rattle.std.specs.Prelude.{◌≡◌};
 ghost use Rattle.pile.specs.Layers.{layered, Laid};
 ghost use Rattle.pile.specs.LayerSound.{layer_sound, layer_within};
 
-use numlist::{Count, Cut, CutLayout, ListFault, NumberList, Test};
+use numlist::{Above, Count, Cut, CutLayout, ListFault, NumberList, Test};
 use std::alloc::AllocError;
 
 /// A list, or a cut over it.
@@ -51,17 +51,17 @@ impl<L: NumberList> NumberList for Layer<L> {
         }
     }
 
-    fn size(&self, numbers: &[u64], skip: u32) -> usize {
+    fn size(&self, numbers: &Above<'_>) -> usize {
         match self {
-            Layer::Bare(list) => list.size(numbers, skip),
-            Layer::Over(cut) => cut.size(numbers, skip),
+            Layer::Bare(list) => list.size(numbers),
+            Layer::Over(cut) => cut.size(numbers),
         }
     }
 
-    fn put(&self, numbers: &[u64], skip: u32, out: &mut [u8]) {
+    fn put(&self, numbers: &Above<'_>, out: &mut [u8]) {
         match self {
-            Layer::Bare(list) => list.put(numbers, skip, out),
-            Layer::Over(cut) => cut.put(numbers, skip, out),
+            Layer::Bare(list) => list.put(numbers, out),
+            Layer::Over(cut) => cut.put(numbers, out),
         }
     }
 

@@ -1,68 +1,72 @@
-use Rattle.std.proofs.Common.{◌≡◌, ℕ, ◌+◌, ◌*◌, ◌≤◌, cond, ◌++◌, length, get_or, take, drop, sum, sym, ap, ◌∙◌, subst, arith, length-append}
-use lib.ListN.{length-map}
-use Rattle.std.proofs.lemmas.List.{take_all, length-take-le}
-use Rattle.bits.specs.Packing.{room, packed}
+use Rattle.std.proofs.Common.{◌≡◌, ◌+◌, ◌*◌, ◌<◌, ◌≤◌, [], ◌∷◌, ◌++◌, length, get_or, take, drop, sum, refl, sym, ap, ◌∙◌, subst, arith, rules}
+use Rattle.std.proofs.lemmas.List.{take_all, take_more, length-take-le}
+use Rattle.std.proofs.lemmas.List.Sums.{sum_by-take-le}
+use Rattle.bits.specs.Packing.{unpacked, room, packed}
 use Rattle.bits.specs.Writing.{Written}
-use Rattle.numlist.specs.Parts.{above, part_of, listed, marked, marks, entries, directory}
-use Rattle.numlist.proofs.Aboves.{above-none, above_more, above-fewer, above_few, sum-marks-append}
+use Rattle.bits.proofs.Packings.{length-unpacked, narrow-unpacked}
+use Rattle.bits.proofs.Words.{are_bytes}
+use Rattle.numlist.specs.Parts.{entries, directory}
 use Rattle.numlist.specs.Directories.{length-directory, sum-narrow}
-use Rattle.numlist.specs.Highs.{narrow_marks}
+use Rattle.numlist.proofs.Marks.{get_or-directory, group_sum, next_group}
 use Rattle.numlist.proofs.parts.put_directory.Goals as goal
 
-pub loop-number-init : goal.loop-number-init
-loop-number-init c =
-    let b = c.args.width.bits in
-    let none = sym (above-none c.args.skip) in
-    let out = c.args.out.now in
-    (ap length none, ap (λ l. sum (marks b l)) none, (λ within. subst (λ l. Written 32 c.new.result out out (directory (marks b l))) none (c.new.ensures 32 out)))
+pub loop-group-init : goal.loop-group-init
+loop-group-init c = record { counted = refl; lent = refl; written = λ within. c.new-pen.ensures.written 32 }
 
-pub push_entry-tally-requires : goal.push_entry-tally-requires
-push_entry-tally-requires c =
-    let b = c.args.width.bits in
-    let k = c.args.skip in
-    let i = c.loop-number.number-index in
-    let front = take i c.args.numbers.now in
-    let long = length-take-le i c.args.numbers.now (omega arith) in
-    record {
-      skip = c.requires.skip;
-      seen = omega (arith, c.loop-number.invariant.0, above_few k front, long, c.requires.few, c.loop-number-test.true);
-      ones = omega (arith, c.loop-number.invariant.0, c.loop-number.invariant.1, sum-narrow (marks b (above k front)) (narrow_marks b (above k front)), length-map {B = ℕ} (above k front) (λ x. cond (marked b x) 1 0));
-    }
+pub overflow_cast-before : goal.overflow_cast-before
+overflow_cast-before c =
+    let m = c.args.count.numbers in
+    let ms = unpacked 1 m c.args.marks.now in
+    omega (arith, c.loop-group.invariant.counted, sum_by-take-le (λ x. x) ms (256 * c.loop-group.group), sum-narrow ms (narrow-unpacked 1 m c.args.marks.now), length-unpacked 1 m c.args.marks.now)
 
-pub loop-number-preserved : goal.loop-number-preserved
-loop-number-preserved c =
-    let b = c.args.width.bits in
-    let k = c.args.skip in
-    let xs = c.args.numbers.now in
-    let i = c.loop-number.number-index in
-    let ys = above k (take i xs) in
-    let new = listed (part_of k (get_or xs i 0)) in
-    let more = above_more k xs i c.loop-number-test.true in
-    let out = c.args.out.now in (
-      c.push_entry-tally.ensures.seen
-          ∙ ap (λ n. n + length new) c.loop-number.invariant.0
-          ∙ sym (ap length more ∙ length-append ys new),
-      c.push_entry-tally.ensures.ones
-          ∙ ap (λ n. n + sum (marks b new)) c.loop-number.invariant.1
-          ∙ sym (ap (λ l. sum (marks b l)) more ∙ sum-marks-append b ys new),
-      (λ within.
-          let fewer = above-fewer k xs (i + 1) in
-          let enough : 4 * entries (length (above k (take (i + 1) xs))) ≤ length out = omega (arith, fewer, within) in
-          subst (λ l. Written 32 c.push_entry-tally.result.pen out c.push_entry-tally.new.out (directory (marks b l))) (sym more)
-          (c.push_entry-tally.ensures.written out ys c.loop-number.invariant.0 c.loop-number.invariant.1
-          (subst (λ l. 4 * entries (length l) ≤ length out) more enough) (c.loop-number.invariant.2 within))),
-    )
+-- the marks of one group more
+counted : (c : goal.After-ones-before) → c.loop-group.before + c.ones-before.result ≡ sum (take (256 * (c.loop-group.group + 1)) (unpacked 1 c.args.count.numbers c.args.marks.now))
+counted c =
+    let m = c.args.count.numbers in
+    let bytes = c.args.marks.now in
+    let ms = unpacked 1 m bytes in
+    let g = c.loop-group.group in
+    let n = c.min.result in
+    let within : 256 * g + n ≤ m = omega arith in
+    (λ i. c.loop-group.invariant.counted i + c.ones-before.ensures i)
+    ∙ sym (group_sum m bytes g n (are_bytes bytes c.type_inv.marks) within)
+    ∙ ap sum (next_group ms m g n (length-unpacked 1 m bytes) c.min.ensures)
+
+pub overflow_add-before : goal.overflow_add-before
+overflow_add-before c =
+    let m = c.args.count.numbers in
+    let ms = unpacked 1 m c.args.marks.now in
+    omega (arith, counted c, sum_by-take-le (λ x. x) ms (256 * (c.loop-group.group + 1)), sum-narrow ms (narrow-unpacked 1 m c.args.marks.now), length-unpacked 1 m c.args.marks.now)
+
+pub loop-group-preserved : goal.loop-group-preserved
+loop-group-preserved c = record {
+  counted = counted c;
+  lent = c.push_count.ensures.lent ∙ c.loop-group.invariant.lent;
+  written = λ within.
+      let m = c.args.count.numbers in
+      let ms = unpacked 1 m c.args.marks.now in
+      let g = c.loop-group.group in
+      let out = c.args.out.now in
+      let entry = directory ms in
+      let long : length entry ≡ entries m = length-directory ms ∙ ap entries (length-unpacked 1 m c.args.marks.now) in
+      let inside : g < length entry = omega (arith, long) in
+      let here : g < entries (length ms) = omega (arith, length-unpacked 1 m c.args.marks.now) in
+      let is : c.loop-group.before ≡ get_or entry g 0 = c.loop-group.invariant.counted ∙ sym (get_or-directory ms g here) in
+      let fits : room 32 (length (take g entry) + 1) ≤ length out = omega (arith, long, within, length-take-le g entry (omega arith)) in
+      subst (Written 32 c.push_count.new.self out) (ap (λ n. take g entry ++ n ∷ []) is ∙ sym (take_more entry g 0 inside))
+      (c.push_count.ensures.written out (take g entry) fits (c.loop-group.invariant.written within));
+}
 
 pub returns : goal.returns
 returns c within =
-    let b = c.args.width.bits in
-    let k = c.args.skip in
-    let xs = c.args.numbers.now in
+    let m = c.args.count.numbers in
+    let ms = unpacked 1 m c.args.marks.now in
     let out = c.args.out.now in
-    let ys = above k xs in
-    let all = ap (above k) (take_all c.loop-number.number-index xs c.loop-number-test.false) in
-    let count = length-directory (marks b ys) ∙ ap entries (length-map ys (λ x. cond (marked b x) 1 0)) in
-    let words : room 32 (length (directory (marks b ys))) ≡ 4 * entries (length ys) = omega (arith, count) in
-    let written = subst (λ l. Written 32 c.loop-number.tally.pen out c.loop-number.out (directory (marks b l))) all (c.loop-number.invariant.2 within) in
-    c.finish.ensures 32 out (directory (marks b ys)) (subst (λ n. n ≤ length out) (sym words) within) written
-    ∙ ap (λ n. packed 32 (directory (marks b ys)) ++ drop n out) words
+    let entry = directory ms in
+    let long : length entry ≡ entries m = length-directory ms ∙ ap entries (length-unpacked 1 m c.args.marks.now) in
+    let whole : room 32 (length entry) ≡ 4 * entries m = omega (arith, long) in
+    let all : take c.loop-group.group entry ≡ entry = take_all c.loop-group.group entry (omega (arith, long)) in
+    let written = subst (Written 32 c.loop-group.pen out) all (c.loop-group.invariant.written within) in
+    search rules
+    ∙ c.finish.ensures 32 out entry (subst (λ n. n ≤ length out) (sym whole) within) written
+    ∙ ap (λ n. packed 32 entry ++ drop n out) whole

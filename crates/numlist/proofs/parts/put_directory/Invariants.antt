@@ -1,12 +1,13 @@
 use Rattle.std.proofs.Common.{◌≡◌, ◌*◌, ◌≤◌, length, take, sum}
+use Rattle.bits.specs.Packing.{unpacked}
 use Rattle.bits.specs.Writing.{Written}
-use Rattle.numlist.specs.Parts.{above, marks, entries, directory}
+use Rattle.numlist.specs.Parts.{entries, directory}
 use Rattle.numlist.proofs.parts.put_directory.Given as goal
 
--- the marks so far are counted, and their directory is written, where there is room for all
-abbrev pub invariant-loop-number : goal.invariant-loop-number
-invariant-loop-number l =
-    (l.tally.seen ≡ length (above l.skip (take l.number-index l.numbers)))
-    × (l.tally.ones ≡ sum (marks l.width.bits (above l.skip (take l.number-index l.numbers))))
-    × (4 * entries (length (above l.skip l.numbers)) ≤ length l.initial.out
-    → Written 32 l.tally.pen l.initial.out l.out (directory (marks l.width.bits (above l.skip (take l.number-index l.numbers)))))
+-- the marks of the groups so far are counted, and the entries of these groups are written where there is room for all
+abbrev pub invariant-loop-group : goal.invariant-loop-group
+invariant-loop-group l = record {
+  counted : l.before ≡ sum (take (256 * l.group) (unpacked 1 l.count.numbers l.marks));
+  lent : l.pen.out.ghost_name ≡ l.initial.pen.out.ghost_name;
+  written : 4 * entries l.count.numbers ≤ length l.fn.out → Written 32 l.pen l.fn.out (take l.group (directory (unpacked 1 l.count.numbers l.marks)));
+}
