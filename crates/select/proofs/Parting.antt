@@ -1,5 +1,5 @@
 -- Partition: it grows by one place a turn, and its pivot comes to stand between the two sides. Assumes nothing.
-use Rattle.std.proofs.Common.{◌≡◌, ℕ, ◌+◌, ◌-◌, ◌<◌, ◌≤◌, Bool, true, false, List, length, get_or, sym, refl, ap, ◌∙◌, subst, ⊎_elim, arith}
+use Rattle.std.proofs.Common.{◌≡◌, ℕ, ◌+◌, ◌-◌, ◌<◌, ◌≤◌, Bool, true, false, List, length, get_or, sym, ap, ◌∙◌, subst, ⊎_elim, arith}
 use mir.Val.{bool_byte}
 use borrow.Rule.Slice.PartMut.{mid_of, put_mid}
 use Rattle.std.specs.List.{swap, AllWithin}
@@ -7,22 +7,10 @@ use Rattle.std.specs.List.Sorted.{IsPermutation}
 use Rattle.std.proofs.lemmas.List.Edits.{Swapped, swapped_from_swap, length-swap}
 use Rattle.std.proofs.lemmas.List.Sorted.{length_permutation}
 use Rattle.std.proofs.lemmas.List.{get_or_read}
+use Rattle.std.proofs.lemmas.Grind.{common_steps}
 use Rattle.std.proofs.lemmas.Bool.{cases_lt, cases_eq}
 use Rattle.select.specs.Divisions.{Parted, Halved}
 use Rattle.select.proofs.Places.{length-mid, length_put, get_or-put_below, get_or-put_inside}
-
--- the border moves up where an element passes
-step_most : (front : Bool) (step : ℕ) → step ≡ bool_byte front → step ≤ 1
-step_most true step moved = omega (arith, moved)
-step_most false step moved = omega (arith, moved)
-
-step_passed : (front : Bool) (step : ℕ) → step ≡ bool_byte front → 0 < step → front ≡ true
-step_passed true step moved up = refl
-step_passed false step moved up = absurd (omega (arith, moved))
-
-step_failed : (front : Bool) (step : ℕ) → step ≡ bool_byte front → step ≤ 0 → front ≡ false
-step_failed true step moved up = absurd (omega (arith, moved))
-step_failed false step moved up = refl
 
 -- the element at the next place trades places with the one at the border, which moves up where the element passes
 pub parted_more :
@@ -36,7 +24,7 @@ parted_more {E} {answers} {ys} {zs} {next} {border} step element front p inside 
 }
   where
     most : step ≤ 1
-    most = step_most front step moved
+    most = grind (arith, common_steps, moved)
 
     swapped : (d : E) → Swapped (λ i. get_or ys i d) (λ i. get_or zs i d) next border
     swapped d = swapped_from_swap ys zs next border d inside (omega (arith, p.to)) e
@@ -48,13 +36,13 @@ parted_more {E} {answers} {ys} {zs} {next} {border} step element front p inside 
     passed k d l h =
         ⊎_elim
         (λ c. subst (λ x. answers x true) (sym ((swapped d).2 k (λ q. omega (arith, p.to)) (λ q. omega arith))) (p.passed k d l c))
-        (λ c. subst (λ x. answers x true) (at_border k d (omega (arith, most))) (subst (answers element) (step_passed front step moved (omega arith)) answered))
+        (λ c. subst (λ x. answers x true) (at_border k d (omega (arith, most))) (let is : front ≡ true = grind (arith, common_steps) in subst (answers element) is answered))
         (cases_lt k border)
 
     failed : AllWithin (λ x. answers x false) zs (border + step) (next + 1)
     failed k d l h =
         ⊎_elim
-        (λ q. subst (λ x. answers x false) (at_border k d q) (subst (answers element) (step_failed front step moved (omega arith)) answered))
+        (λ q. subst (λ x. answers x false) (at_border k d q) (let is : front ≡ false = grind (arith, common_steps) in subst (answers element) is answered))
         (λ n. ⊎_elim
         (λ q. subst (λ x. answers x false) (sym (swapped d).0 ∙ ap (λ i. get_or zs i d) (sym q)) (p.failed border d (omega arith) (omega (arith, n, q))))
         (λ m. subst (λ x. answers x false) (sym ((swapped d).2 k m n)) (p.failed k d (omega arith) (omega (arith, m))))
@@ -108,16 +96,10 @@ module _ {E : Type 0} (before : E → E → Bool) (answers : E → Bool → Type
   front_smaller k d l h = answered k d true l (omega (arith, middle_inside)) (parted.passed (k - 1) d (omega arith) (omega arith))
 
   smaller : (k : ℕ) (d : E) → k < middle → before (get_or ys k d) pivot ≡ true
-  smaller k d h =
-      ⊎_elim
-      (λ q. ap (λ i. before (get_or ys i d) pivot) q ∙ ap (λ e. before e pivot) (second d).0 ∙ front_smaller middle d (omega arith) (omega arith))
-      (λ n. ap (λ e. before e pivot) ((second d).2 k n (λ q. omega arith)) ∙ front_smaller k d (omega (arith, n)) (omega arith))
-      (cases_eq k 0)
+  smaller k d h = grind (arith, common_steps, second d, front_smaller middle d, front_smaller k d)
 
   others : (k : ℕ) (d : E) → middle < k → k < length fronted → before (get_or ys k d) pivot ≡ false
-  others k d l h =
-      ap (λ e. before e pivot) ((second d).2 k (λ q. omega arith) (λ q. omega arith))
-      ∙ answered k d false (omega arith) h (parted.failed (k - 1) d (omega arith) (omega (arith, length_permutation _ rest kept, long_rest)))
+  others k d l h = grind (arith, common_steps, second d, answered k d false, parted.failed (k - 1) d, length_permutation _ rest kept, long_rest)
 
   pub halved : Halved before middle ys
   halved = record {
