@@ -20,7 +20,7 @@ module _ {E : Type 0} (before : Axis → E → E → Bool) (total : TotalOrders 
       level_with : before axis e low ≡ false → before axis e high ≡ true
       level_with is = ap (λ f. before axis f high) (total.same axis e low is after) ∙ between
 
-  pub level_self : (e : E) → level before e e ≡ true
+  level_self : (e : E) → level before e e ≡ true
   level_self e =
       let not_before = not_from_false (before X e e) (total.irreflexive X e) in
       and_from (not (before X e e)) (not (before X e e)) not_before not_before

@@ -1,5 +1,5 @@
 -- Pairs of numbers in the order of their first part and then their second, and cells by that order. Assumes nothing.
-use Rattle.std.specs.Prelude.{◌≡◌, ℕ, ◌+◌, ◌*◌, ◌^◌, ◌<◌, Bool, true, false, ◌&&◌, ◌||◌, ◌==◌, nat_lt}
+use Rattle.std.specs.Prelude.{◌≡◌, ℕ, Bool, true, false, ◌&&◌, ◌||◌, ◌==◌, nat_lt}
 use Rattle.std.proofs.Common.{arith}
 use Rattle.std.proofs.lemmas.Bool.Decides.{nat_tests}
 use Rattle.grid.specs.declared.cell.Cell.{Cell}
@@ -11,10 +11,6 @@ use Rattle.select.specs.declared.element.Axis.TheVariants.{X, Y}
 -- a before b, or the same and c before d
 abbrev ordered : ℕ → ℕ → ℕ → ℕ → Bool
 ordered a c b d = nat_lt a b || (a == b && nat_lt c d)
-
--- two numbers are ordered as their halves are
-pub keys_order : (a c b d : ℕ) → c < 2 ^ 32 → d < 2 ^ 32 → nat_lt (a * 2 ^ 32 + c) (b * 2 ^ 32 + d) ≡ ordered a c b d
-keys_order a c b d p q = grind (arith, nat_tests)
 
 never : (a c : ℕ) → ordered a c a c ≡ false
 never a c = grind (arith, nat_tests)
