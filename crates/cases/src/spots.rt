@@ -18,53 +18,38 @@ const SPOT: [u8; 36] = [
 
 /// The list of the worked spot: cut 8 over cut 8 over fixed 26.
 fn list() -> Result<Cut<Cut<Fixed>>, Fail> {
-    let Ok(lowest) = Fixed::new(26) else {
-        return Err(Fail::new("a fixed list"));
-    };
-    let Ok(lower) = Cut::new(8, lowest) else {
-        return Err(Fail::new("a cut"));
-    };
-    match Cut::new(8, lower) {
-        Ok(list) => Ok(list),
-        Err(_) => Err(Fail::new("a cut over a cut")),
-    }
+    let lowest = Fixed::new(26).map_err(|_| Fail::new("a fixed list"))?;
+    let lower = Cut::new(8, lowest).map_err(|_| Fail::new("a cut"))?;
+    Cut::new(8, lower).map_err(|_| Fail::new("a cut over a cut"))
 }
 
 /// The calls that put the seven hits in the order of some places, and then ask how many are held.
 fn calls(order: [usize; 7]) -> [Entry; 8] {
     let mut journal = [Entry::new(Call::Held); 8];
-    for i in 0..7 {
-        let (x, y) = SEVEN[order[i].min(6)];
-        journal[i] = Entry::new(Call::Put(Cell { x, y }));
+    for (entry, hit) in journal.iter_mut().zip(order) {
+        let (x, y) = SEVEN[hit.min(6)];
+        *entry = Entry::new(Call::Put(Cell { x, y }));
     }
     journal
 }
 
 /// The hits are put in the order of some places, and packed: the number of bytes, or 1,000 and the refusal's number.
 fn packed(order: [usize; 7], codes: &mut [u64], out: &mut [u8]) -> Result<usize, Fail> {
-    let Ok(grid) = Grid::new(16) else {
-        return Err(Fail::new("a grid"));
-    };
-    let Ok(make) = Make::new(RingCode, list()?, 1) else {
-        return Err(Fail::new("a make"));
-    };
+    let grid = Grid::new(16).map_err(|_| Fail::new("a grid"))?;
+    let make = Make::new(RingCode, list()?, 1).map_err(|_| Fail::new("a make"))?;
     let mut journal = calls(order);
     let mut cells = [Cell { x: 0, y: 0 }; 9];
     match run_and_pack(&make, grid, &mut cells, &mut journal, codes, out) {
         Ok(length) => Ok(length.min(999)),
-        Err(refused) => Ok(1000 + refused.number() as usize),
+        Err(refused) => Ok(1000 + usize::from(u8::from(refused))),
     }
 }
 
 fn the_worked_spot(rt: &impl Abort, order: [usize; 7]) -> Result<(), Fail> {
     let mut out = [7; 40];
     assert_eq!(rt; packed(order, &mut [0; 7], &mut out)?, 36);
-    for i in 0..36 {
-        assert_eq!(rt; out[i], SPOT[i]);
-    }
-    for i in 36..40 {
-        assert_eq!(rt; out[i], 7);
-    }
+    assert!(rt; out.starts_with(&SPOT));
+    assert!(rt; out.iter().skip(36).all(|byte| *byte == 7));
     Ok(())
 }
 
@@ -81,8 +66,6 @@ fn short_memory_is_refused(rt: HostRuntime) -> Result<(), Fail> {
     let mut out = [7; 35];
     assert_eq!(rt; packed(order, &mut [0; 6], &mut out)?, 1006);
     assert_eq!(rt; packed(order, &mut [0; 7], &mut out)?, 1005);
-    for i in 0..35 {
-        assert_eq!(rt; out[i], 7);
-    }
+    assert!(rt; out == [7; 35]);
     Ok(())
 }
