@@ -3,7 +3,7 @@ use cellcode::RingCode;
 use grid::{Cell, Grid};
 use numlist::{Cut, Fixed};
 use sheet::{Call, Entry};
-use spot::{Make, run_and_pack};
+use spot::{Make, PackRefused, run_and_pack};
 use std::process::Abort;
 use std::test::Fail;
 
@@ -33,21 +33,22 @@ fn calls(order: [usize; 7]) -> [Entry; 8] {
     journal
 }
 
-/// The hits are put in the order of some places, and packed: the number of bytes, or 1,000 and the refusal's number.
-fn packed(order: [usize; 7], codes: &mut [u64], out: &mut [u8]) -> Result<usize, Fail> {
+/// The hits are put in the order of some places, and packed: what packing answers.
+fn packed(
+    order: [usize; 7],
+    codes: &mut [u64],
+    out: &mut [u8],
+) -> Result<Result<usize, PackRefused>, Fail> {
     let grid = Grid::new(16).map_err(|_| Fail::new("a grid"))?;
     let make = Make::new(RingCode, list()?, 1).map_err(|_| Fail::new("a make"))?;
     let mut journal = calls(order);
     let mut cells = [Cell { x: 0, y: 0 }; 9];
-    match run_and_pack(&make, grid, &mut cells, &mut journal, codes, out) {
-        Ok(length) => Ok(length.min(999)),
-        Err(refused) => Ok(1000 + usize::from(u8::from(refused))),
-    }
+    Ok(run_and_pack(&make, grid, &mut cells, &mut journal, codes, out))
 }
 
 fn the_worked_spot(rt: &impl Abort, order: [usize; 7]) -> Result<(), Fail> {
     let mut out = [7; 40];
-    assert_eq!(rt; packed(order, &mut [0; 7], &mut out)?, 36);
+    assert_eq!(rt; packed(order, &mut [0; 7], &mut out)?, Ok(36));
     assert!(rt; out.starts_with(&SPOT));
     assert!(rt; out.iter().skip(36).all(|byte| *byte == 7));
     Ok(())
@@ -64,8 +65,8 @@ fn any_order_gives_the_worked_spot(rt: HostRuntime) -> Result<(), Fail> {
 fn short_memory_is_refused(rt: HostRuntime) -> Result<(), Fail> {
     let order = [0, 1, 2, 3, 4, 5, 6];
     let mut out = [7; 35];
-    assert_eq!(rt; packed(order, &mut [0; 6], &mut out)?, 1006);
-    assert_eq!(rt; packed(order, &mut [0; 7], &mut out)?, 1005);
+    assert_eq!(rt; packed(order, &mut [0; 6], &mut out)?, Err(PackRefused::NoScratch));
+    assert_eq!(rt; packed(order, &mut [0; 7], &mut out)?, Err(PackRefused::NoRoom));
     assert!(rt; out == [7; 35]);
     Ok(())
 }
