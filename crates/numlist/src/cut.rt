@@ -1,9 +1,7 @@
 //! The cut: a list that keeps the lowest bits of each number, and gives what is above to another list.
-ghost use Rattle.std.specs.Prelude.{◌≡◌, ◌+◌, ◌≤◌, min, ◌&&◌, length, drop, Some, None, Ok, Err};
+ghost use Rattle.std.specs.Prelude.{◌≡◌, ◌+◌, ◌≤◌, min, length, Some, None, Ok, Err};
 ghost use Rattle.numlist.specs.Calls.{cut_refusal};
-ghost use Rattle.numlist.specs.Cuts.{cut, marks_at, below_at, below_in, ones_in};
-ghost use Rattle.numlist.specs.Fixed.{filled};
-ghost use Rattle.numlist.specs.Lists.{most};
+ghost use Rattle.numlist.specs.Cuts.{cut, below_at, below_in, ones_in};
 ghost use Rattle.numlist.specs.Placed.{Placed};
 ghost use Rattle.numlist.specs.CutSound.{cut_sound};
 
@@ -25,6 +23,7 @@ pub struct Cut<L: NumberList> {
 
 impl<L: NumberList + Copy> Copy for Cut<L> {}
 
+// By hand, since no derive copies the fact that the struct keeps.
 impl<L: NumberList + Copy> Clone for Cut<L> {
     ghost is_clone = { λ cut copy. copy ≡ cut };
 
@@ -51,9 +50,7 @@ impl<L: NumberList + Copy> Cut<L> {
         if bits > MOST_CUT_BITS {
             return Err(CutRefused::Width);
         }
-        let Some(width) = Width::new(bits) else {
-            return Err(CutRefused::Width);
-        };
+        let width = Width::new(bits).ok_or(CutRefused::Width)?;
         if below.reach() > 64 - bits {
             return Err(CutRefused::Reach);
         }
