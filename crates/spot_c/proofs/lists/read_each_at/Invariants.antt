@@ -1,4 +1,4 @@
-use Rattle.std.proofs.Common.{◌≡◌, ℕ, ◌≤◌, Ok}
+use Rattle.std.proofs.Common.{◌≡◌, ℕ, Ok}
 use Rattle.spot_c.proofs.Lookups.{Looked}
 use Rattle.spot_c.proofs.lists.read_each_at.Given as goal
 
@@ -6,5 +6,5 @@ use Rattle.spot_c.proofs.lists.read_each_at.Given as goal
 abbrev pub invariant-loop-place : goal.invariant-loop-place
 invariant-loop-place g l =
     let L = g.L.NumberList.meaning l.list in
-    (n : ℕ) → L.reach ≤ 64 → L.verdict l.bytes l.count ≡ Ok n
-    → Looked (L.numbers l.bytes l.count) l.count l.initial.places l.places l.place-index
+    (n : ℕ) → L.verdict l.bytes l.count.numbers ≡ Ok n
+    → Looked (L.numbers l.bytes l.count.numbers) l.count.numbers l.initial.places l.places l.place-index
