@@ -1,5 +1,5 @@
 -- What a pen writes. Assumes nothing.
-use Rattle.std.proofs.Common.{◌≡◌, ℕ, zero, suc, ◌+◌, ◌-◌, ◌*◌, ◌/◌, ◌%◌, ◌^◌, ◌<◌, ◌≤◌, Bool, true, false, cond, List, [], ◌∷◌, ◌++◌, length, take, drop, sym, refl, ap, ◌∙◌, subst, append_assoc, append-nil, lt_of_lt_of_le, add-zero, mod-lt, mod-eq_of_lt, mul-zero, mul-suc, mul-add, add-one, arith, length-append, length-drop, pow_pos, pow_mono, pow-add, shr-shr, shr_lt}
+use Rattle.std.proofs.Common.{◌≡◌, ℕ, zero, suc, ◌+◌, ◌-◌, ◌*◌, ◌/◌, ◌%◌, ◌^◌, ◌<◌, ◌≤◌, Bool, true, false, cond, List, [], ◌∷◌, ◌++◌, length, take, drop, Some, None, Option, sym, refl, ap, ◌∙◌, subst, append_assoc, append-nil, lt_of_lt_of_le, add-zero, mod-lt, mod-eq_of_lt, mul-zero, mul-suc, mul-add, add-one, arith, length-append, length-drop, pow_pos, pow_mono, pow-add, shr-shr, shr_lt}
 use native.Mathlib.Nat.{div-div-eq-div-mul}
 use lib.Arith.{digits_lt}
 use lib.Bits.{bit_or}
@@ -9,7 +9,8 @@ use Rattle.std.proofs.lemmas.List.{length_push, length-take-le, take_at, drop_at
 use Rattle.std.proofs.lemmas.Nat.{or_shifted, or_comm}
 use Rattle.std.proofs.ByRecursion.{All-take, All-append}
 use Rattle.bits.specs.Packing.{value, digits, Narrow, room, packed}
-use Rattle.bits.specs.Writing.{Written}
+use Rattle.std.specs.Option.{unwrap_or}
+use Rattle.bits.specs.Writing.{Written, pushed}
 use Rattle.bits.specs.declared.pen.Pen.{Pen}
 use Rattle.bits.proofs.Digits.{length_digits, narrow-digits, value-digits, digits_value, value-append}
 
@@ -94,9 +95,9 @@ written_none w p start at bits fill is = record {
 
 -- a number of w bits is pushed
 module _ (w : ℕ) (p q : Pen) (start xs : List ℕ) (y : ℕ) (was : Written w p start xs) where
-  pushed : value w (xs ++ y ∷ []) ≡ joined y p.fill p.bits * 2 ^ (8 * p.at) + value 8 (take p.at p.out.now)
+  one_more : value w (xs ++ y ∷ []) ≡ joined y p.fill p.bits * 2 ^ (8 * p.at) + value 8 (take p.at p.out.now)
   unfolding value
-  pushed =
+  one_more =
       value-append w xs (y ∷ [])
       ∙ (λ i. (0 * 2 ^ w + y) * 2 ^ (sym was.counted i) + was.held i)
       ∙ ap (λ n. (0 * 2 ^ w + y) * n + (p.bits * 2 ^ (8 * p.at) + value 8 (take p.at p.out.now))) (pow-add 2 (8 * p.at) p.fill)
@@ -114,7 +115,7 @@ module _ (w : ℕ) (p q : Pen) (start xs : List ℕ) (y : ℕ) (was : Written w 
     counted = omega (arith, longer, was.counted);
     within = omega (arith, was.within);
     long = ap length out ∙ was.long;
-    held = pushed ∙ sym (λ i. bits i * 2 ^ (8 * at i) + value 8 (take (at i) (out i)));
+    held = one_more ∙ sym (λ i. bits i * 2 ^ (8 * at i) + value 8 (take (at i) (out i)));
     behind = (λ i. drop (at i) (out i)) ∙ was.behind ∙ sym (λ i. drop (at i) start);
   }
 
@@ -150,7 +151,7 @@ module _ (w : ℕ) (p q : Pen) (start xs : List ℕ) (y : ℕ) (was : Written w 
       counted = omega (arith, longer, was.counted);
       within = omega arith;
       long = ap length wrote ∙ length-append (take p.at p.out.now) (digits 8 8 word ++ drop (p.at + 8) p.out.now) ∙ omega (arith, taken, length-append (digits 8 8 word) (drop (p.at + 8) p.out.now), length_digits 8 8 word, length-drop (p.at + 8) p.out.now, was.long);
-      held = pushed ∙ split_word ∙ sym (λ i. bits i * 2 ^ (8 * at i) + value 8 (take (at i) q.out.now));
+      held = one_more ∙ split_word ∙ sym (λ i. bits i * 2 ^ (8 * at i) + value 8 (take (at i) q.out.now));
       behind = (λ i. drop (at i) q.out.now) ∙ behind_now ∙ sym (drop-drop 8 p.at p.out.now) ∙ ap (drop 8) was.behind ∙ drop-drop 8 p.at start ∙ sym (λ i. drop (at i) start);
     }
       where
@@ -218,16 +219,21 @@ written-kept w p q start xs at bits fill same was = subst (Written w q start) (s
   behind = (λ i. drop (at i) (same i)) ∙ was.behind ∙ sym (λ i. drop (at i) start);
 }
 
+-- the bits that a number takes, and none takes none
+abbrev pub width_of : ℕ → Option ℕ → ℕ
+width_of w (Some x) = w
+width_of w None = 0
+
 -- a number is pushed, or nothing is
-pub written_if :
-    (w wide number : ℕ) (there : Bool) (p q : Pen) (start xs : List ℕ) → wide ≡ cond there w 0
+pub written_some :
+    (w wide number : ℕ) (o : Option ℕ) (p q : Pen) (start xs : List ℕ) → wide ≡ width_of w o → number ≡ unwrap_or o 0
     → (room wide (length xs + 1) ≤ length start → Written wide p start xs → Written wide q start (xs ++ number % 2 ^ wide ∷ []))
     → (wide ≡ 0 → (q.at ≡ p.at) × (q.bits ≡ p.bits) × (q.fill ≡ p.fill) × (q.out.now ≡ p.out.now))
-    → room w (length (xs ++ cond there (number % 2 ^ w ∷ []) [])) ≤ length start → Written w p start xs
-    → Written w q start (xs ++ cond there (number % 2 ^ w ∷ []) [])
-written_if w few number true p q start xs is push none within was =
-    subst (λ b. room b (length xs + 1) ≤ length start → Written b p start xs → Written b q start (xs ++ number % 2 ^ b ∷ [])) is push
-    (subst (λ n. room w n ≤ length start) (length_push xs (number % 2 ^ w)) within) was
-written_if w few number false p q start xs is push none within was =
+    → room w (length (xs ++ pushed w o)) ≤ length start → Written w p start xs → Written w q start (xs ++ pushed w o)
+written_some w few number (Some x) p q start xs is its push none within was =
+    subst (λ n. Written w q start (xs ++ n % 2 ^ w ∷ [])) its
+    (subst (λ b. room b (length xs + 1) ≤ length start → Written b p start xs → Written b q start (xs ++ number % 2 ^ b ∷ [])) is push
+    (subst (λ n. room w n ≤ length start) (length_push xs (x % 2 ^ w)) within) was)
+written_some w few number None p q start xs is its push none within was =
     let kept = none is in
     written-kept w p q start xs kept.0 kept.1 kept.2 kept.3 was

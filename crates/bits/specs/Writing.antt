@@ -1,5 +1,5 @@
 -- What a pen has written.
-use Rattle.std.specs.Prelude.{◌≡◌, ℕ, ◌+◌, ◌*◌, ◌^◌, ◌≤◌, List, length, take, drop}
+use Rattle.std.specs.Prelude.{◌≡◌, ℕ, ◌+◌, ◌*◌, ◌%◌, ◌^◌, ◌≤◌, List, [], ◌∷◌, length, take, drop, Some, None, Option}
 use Rattle.bits.specs.Packing.{value}
 use Rattle.bits.specs.declared.pen.Pen.{Pen}
 
@@ -11,3 +11,8 @@ pub record Written (w : ℕ) (p : Pen) (start xs : List ℕ) : Type 0 where
   pub long : length p.out.now ≡ length start
   pub held : value w xs ≡ p.bits * 2 ^ (8 * p.at) + value 8 (take p.at p.out.now)
   pub behind : drop p.at p.out.now ≡ drop p.at start
+
+-- what is written of a number that may not be there: its lowest w bits, or nothing
+abbrev pub pushed : ℕ → Option ℕ → List ℕ
+pushed w (Some x) = x % 2 ^ w ∷ []
+pushed w None = []

@@ -26,8 +26,7 @@ pub fn read(bytes: &[u8], at: usize, width: Width) -> u64
 pub fn bit(bytes: &[u8], at: usize) -> u64
     ensures { result ≡ value 8 bytes.now / 2 ^ at % 2 }
 {
-    let byte = bytes.get(at / 8).copied().unwrap_or(0);
-    (u64::from(byte) >> (at % 8)) % 2
+    read(bytes, at, Width::MARK)
 }
 
 /// Whether the bits behind the first `bits` are 0, up to the end of their byte.

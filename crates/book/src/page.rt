@@ -9,7 +9,7 @@ use itoa::Buffer;
 pub mod session;
 
 /// Bytes that a caller lends, written from the front on. What finds no place is counted all the same, up to the greatest
-/// count that there is.
+/// count that there is; so the count stands beside the bytes, and may be greater than they are.
 #[derive(Drop)]
 pub struct Page<'a> {
     bytes: &'a mut [u8],

@@ -65,8 +65,14 @@ fn any_order_gives_the_worked_spot(rt: HostRuntime) -> Result<(), Fail> {
 fn short_memory_is_refused(rt: HostRuntime) -> Result<(), Fail> {
     let order = [0, 1, 2, 3, 4, 5, 6];
     let mut out = [7; 35];
-    assert_eq!(rt; packed(order, &mut [0; 6], &mut out)?, Err(PackRefused::NoScratch));
-    assert_eq!(rt; packed(order, &mut [0; 7], &mut out)?, Err(PackRefused::NoRoom));
+    assert_eq!(rt;
+        packed(order, &mut [0; 6], &mut out)?,
+        Err(PackRefused::NoScratch)
+    );
+    assert_eq!(rt;
+        packed(order, &mut [0; 7], &mut out)?,
+        Err(PackRefused::NoRoom)
+    );
     assert!(rt; out == [7; 35]);
     Ok(())
 }

@@ -1,5 +1,6 @@
 -- What the calls of a list answer.
-use Rattle.std.specs.Prelude.{ℕ, ◌+◌, ◌^◌, Bool, true, cond, ◌&&◌, List, [], ◌∷◌, ◌++◌, length, drop, Some, None, Ok, Err, Option, Result, nat_le, nat_lt}
+use Rattle.std.specs.Prelude.{ℕ, ◌+◌, ◌^◌, Bool, true, cond, ◌&&◌, List, ◌++◌, length, drop, Some, None, Ok, Err, Option, Result, nat_le, nat_lt}
+use Rattle.std.specs.List.{list_all}
 use Rattle.numlist.specs.Lists.{Meaning, most}
 use Rattle.numlist.specs.declared.fault.ListFault.{ListFault}
 use Rattle.numlist.specs.declared.refusal.CutRefused.{CutRefused}
@@ -8,8 +9,7 @@ use Rattle.numlist.specs.declared.refusal.WriteRefused.{WriteRefused}
 
 -- each number has at most w bits
 abbrev pub narrow : ℕ → List ℕ → Bool
-narrow w [] = true
-narrow w (x ∷ xs) = nat_lt x (2 ^ w) && narrow w xs
+narrow w xs = list_all (λ x. nat_lt x (2 ^ w)) xs
 
 -- the answer to the wish to write numbers into so many bytes: the bytes that it takes, or the first reason against it
 abbrev pub write_answer : Meaning → List ℕ → ℕ → Result ℕ WriteRefused

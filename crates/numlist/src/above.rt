@@ -89,7 +89,7 @@ impl<'a> Above<'a> {
         let mut pen = Pen::new(out);
         for number in self.numbers {
             let part = part(*number, self.skip);
-            pen.push_if(width, made(part.unwrap_or(0)), part.is_some());
+            pen.push_some(width, part.map(&made));
         }
         pen.finish();
     }

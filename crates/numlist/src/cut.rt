@@ -21,9 +21,9 @@ pub struct Cut<L: NumberList> {
     ghost within: { width.bits + (L.NumberList.meaning below).reach ≤ 64 },
 }
 
+// By hand, since a derive is refused over a ghost field that names a bound.
 impl<L: NumberList + Copy> Copy for Cut<L> {}
 
-// By hand, since no derive copies the fact that the struct keeps.
 impl<L: NumberList + Copy> Clone for Cut<L> {
     ghost is_clone = { λ cut copy. copy ≡ cut };
 

@@ -67,9 +67,7 @@ pub trait NumberList {
         ensures answer { result ≡ write_answer (meaning self.now) numbers.now (length out.old) }
         ensures bytes { out.new ≡ written (meaning self.now) numbers.now out.old (is_ok result) }
     {
-        let Some(all) = Above::new(numbers) else {
-            return Err(WriteRefused::TooMany);
-        };
+        let all = Above::new(numbers).ok_or(WriteRefused::TooMany)?;
         if !is_narrow(numbers, self.reach()) {
             return Err(WriteRefused::TooLarge);
         }

@@ -11,12 +11,7 @@ use bits::{Pen, Width, ones};
 pub(crate) fn is_narrow(numbers: &[u64], bits: u32) -> bool
     ensures { result ≡ narrow bits numbers.now }
 {
-    for number in numbers {
-        if !fits(*number, bits) {
-            return false;
-        }
-    }
-    true
+    numbers.iter().all(|number| fits(*number, bits))
 }
 
 fn fits(number: u64, bits: u32) -> bool
@@ -46,7 +41,7 @@ pub(crate) fn is_marked(number: u64, width: Width) -> bool
     number >> width.bits() != 0
 }
 
-/// Puts the directory of so many marks.
+/// Puts the directory of so many marks. A loop, since each entry is the sum of all groups before it.
 pub(crate) fn put_directory(marks: &[u8], count: Count, out: &mut [u8])
     ensures { 4 * entries count.numbers ≤ length out.old → out.new ≡ packed 32 (directory (unpacked 1 count.numbers marks.now)) ++ drop (4 * entries count.numbers) out.old }
 {

@@ -14,6 +14,7 @@ pub enum Layer<L: NumberList> {
     Over(Cut<L>),
 }
 
+// By hand, as of the cut in it: a derive is refused over a ghost field that names a bound.
 impl<L: NumberList + Copy> Copy for Layer<L> {}
 
 impl<L: NumberList + Copy> Clone for Layer<L> {

@@ -43,7 +43,8 @@ fn cube_root(number: usize) -> usize
     1 << (number.ilog2() / 3)
 }
 
-/// Brings every element that is so many places from the last one to the front, and tells how many these are.
+/// Brings every element that is so many places from the last one to the front, and tells how many these are. By index, since
+/// elements trade places within the slice.
 fn gather_even<E: Element>(part: &mut [E], stride: usize) -> usize
     requires { (2 ≤ length part.old) × (2 ≤ stride) }
     ensures kept { IsPermutation part.old part.new }
@@ -70,7 +71,7 @@ pub fn draw_middles<E: Element>(axis: Axis, part: &mut [E]) -> Sample
     }
 }
 
-/// Brings the middle one of each five elements to the front, and tells how many these are.
+/// Brings the middle one of each five elements to the front, and tells how many these are. By index, for the same reason.
 fn gather_middles<E: Element>(axis: Axis, part: &mut [E]) -> usize
     ensures kept { IsPermutation part.old part.new }
     ensures count { result ≡ length part.old / 5 }

@@ -18,7 +18,14 @@ pub struct Make<C: CellCode, L: NumberList> {
     ghost near: { (L.NumberList.meaning list).reach ≤ 64 },
 }
 
+// By hand, since a derive is refused over ghost fields that name a bound.
 impl<C: CellCode + Copy, L: NumberList + Copy> Clone for Make<C, L> {
+    ghost use Rattle.std.specs.Prelude.{◌≡◌};
+
+    ghost is_clone = { λ make copy. copy ≡ make };
+
+    ghost is_infallible = { λ _. Unit {0} };
+
     fn clone(&self) -> Result<Make<C, L>, AllocError> {
         Ok(*self)
     }

@@ -39,20 +39,21 @@ impl Refused {
         ensures value { result ≡ number self }
         ensures small { result < 2 ^ 32 }
     {
-        match self {
-            Refused::Side(why) => u64::from(u8::from(why)),
-            Refused::OffGrid(why) => u64::from(u8::from(why)),
-            Refused::Sheet(why) => u64::from(u8::from(why)),
-            Refused::Pile(why) => u64::from(u8::from(why)),
-            Refused::Write(why) => u64::from(u8::from(why)),
-            Refused::Open(OpenRefused::Faulty(fault)) => fault_number(fault),
-            Refused::Open(why) => u64::from(u8::from(why)),
-            Refused::Read(ReadRefused::Faulty(fault)) => fault_number(fault),
-            Refused::Read(why) => u64::from(u8::from(why)),
-            Refused::Make(why) => u64::from(u8::from(why)),
-            Refused::Pack(why) => u64::from(u8::from(why)),
+        let number = match self {
+            Refused::Open(OpenRefused::Faulty(fault)) => return fault_number(fault),
+            Refused::Read(ReadRefused::Faulty(fault)) => return fault_number(fault),
+            Refused::Side(why) => u8::from(why),
+            Refused::OffGrid(why) => u8::from(why),
+            Refused::Sheet(why) => u8::from(why),
+            Refused::Pile(why) => u8::from(why),
+            Refused::Write(why) => u8::from(why),
+            Refused::Open(why) => u8::from(why),
+            Refused::Read(why) => u8::from(why),
+            Refused::Make(why) => u8::from(why),
+            Refused::Pack(why) => u8::from(why),
             Refused::Code(NoCode) => 11,
-        }
+        };
+        u64::from(number)
     }
 }
 

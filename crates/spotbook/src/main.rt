@@ -8,9 +8,7 @@ use std::io::{Read, Write};
 fn run(rt: &HostRuntime) -> anyhow::Result<()> {
     let heap = rt.alloc();
     let mut input = Vec::new(heap);
-    rt.stdin()
-        .take(MOST_INPUT as u64)
-        .read_to_end(&mut input)?;
+    rt.stdin().take(MOST_INPUT as u64).read_to_end(&mut input)?;
     // once to count the bytes of the replies, and once to write them
     let len = replies(input.as_slice(), &mut []);
     let mut out = vec![in heap; 0u8; len]?;

@@ -1,7 +1,7 @@
 //! Writing numbers into bytes, one after another.
-ghost use Rattle.std.specs.Prelude.{◌≡◌, ℕ, ◌+◌, ◌%◌, ◌^◌, ◌≤◌, List, [], ◌∷◌, ◌++◌, length, take, drop, if◌then◌else◌};
+ghost use Rattle.std.specs.Prelude.{◌≡◌, ℕ, ◌+◌, ◌%◌, ◌^◌, ◌≤◌, List, [], ◌∷◌, ◌++◌, length, take, drop};
 ghost use Rattle.bits.specs.Packing.{digits, room, packed, Narrow};
-ghost use Rattle.bits.specs.Writing.{Written};
+ghost use Rattle.bits.specs.Writing.{Written, pushed};
 
 use crate::reading::low_bits;
 use crate::{Pen, Width};
@@ -30,21 +30,14 @@ impl Pen<'_> {
         self.push_bits(width.bits(), number);
     }
 
-    /// Writes the lowest bits of a number where it is there, and nothing where it is not. Neither has a branch of its own:
-    /// which numbers are there cannot be foreseen.
-    pub fn push_if(&mut self, width: Width, number: u64, there: bool)
-        ensures written { (start xs : List ℕ) → room width.bits (length (xs ++ (if there then number % 2 ^ width.bits ∷ [] else []))) ≤ length start → Written width.bits self.old start xs → Written width.bits self.new start (xs ++ (if there then number % 2 ^ width.bits ∷ [] else [])) }
+    /// Writes the lowest bits of a number if there is one, and nothing if there is none. Neither has a branch of its own:
+    /// which numbers there are cannot be foreseen.
+    pub fn push_some(&mut self, width: Width, number: Option<u64>)
+        ensures written { (start xs : List ℕ) → room width.bits (length (xs ++ pushed width.bits number)) ≤ length start → Written width.bits self.old start xs → Written width.bits self.new start (xs ++ pushed width.bits number) }
         ensures lent { self.new.out.ghost_name ≡ self.old.out.ghost_name }
     {
-        self.push_bits(bits_if(there, width.bits()), number);
-    }
-
-    /// Writes a mark where it is there.
-    pub fn push_mark_if(&mut self, mark: bool, there: bool)
-        ensures written { (start xs : List ℕ) → room 1 (length (xs ++ (if there then (if mark then 1 else 0) ∷ [] else []))) ≤ length start → Written 1 self.old start xs → Written 1 self.new start (xs ++ (if there then (if mark then 1 else 0) ∷ [] else [])) }
-        ensures lent { self.new.out.ghost_name ≡ self.old.out.ghost_name }
-    {
-        self.push_if(Width::MARK, u64::from(mark), there);
+        let wide = number.map_or(0, |_| width.bits());
+        self.push_bits(wide, number.unwrap_or(0));
     }
 
     /// Writes a count.
@@ -87,15 +80,6 @@ impl Pen<'_> {
         } = self;
         put_bytes(out, at, (fill as usize + 7) / 8, bits);
     }
-}
-
-// So many bits, or none.
-fn bits_if(there: bool, bits: u32) -> u32
-    requires { bits ≤ 48 }
-    ensures value { result ≡ (if there then bits else 0) }
-    ensures few { result ≤ 48 }
-{
-    if there { bits } else { 0 }
 }
 
 // Puts the lowest bytes of a number, the least first, where there is a place for them, and gives the place behind them.

@@ -84,8 +84,7 @@ fn serve(sheet: &mut Sheet, lines: &mut Lines, page: &mut Page)
 
 /// The part of an input that is read: 65,536 bytes at most.
 fn read_part(input: &[u8]) -> &[u8]
-    ensures part { result.now ≡ take 65536 input.now }
-    ensures few { length result.now ≤ 65536 }
+    ensures { result.now ≡ take 65536 input.now }
 {
     &input[..input.len().min(MOST_INPUT)]
 }

@@ -15,7 +15,7 @@ session_of page after bytes part e wrote = subst (λ bs. Wrote page (texts (from
 -- no grid was opened
 pub returns-in_default : goal.returns-in_default
 returns-in_default c =
-    let wrote = session_of _ _ _ _ (c.new-lines.ensures ∙ c.read_part.ensures.part) (part_all c.in_default.ensures) in
+    let wrote = session_of _ _ _ _ (c.new-lines.ensures ∙ c.read_part.ensures) (part_all c.in_default.ensures) in
     let counted = session_counted c.args.input.now in
     record { len = ended_len _ _ _ _ refl refl wrote counted; bytes = ended_bytes _ _ _ _ refl refl wrote counted _ (search rules) }
 
@@ -26,6 +26,6 @@ returns c =
     let on-it = c.serve.ensures [] (ap tally c.new-sheet.ensures.hits) in
     let served = subst (λ g. Wrote c.open.new.page (texts (on_grid g.side [] left)) c.serve.new.page) c.new-sheet.ensures.grid on-it in
     let whole = part_last (texts (on_grid c.in-Some.grid.side [] left)) c.in-Some.ensures served in
-    let wrote = session_of _ _ _ _ (c.new-lines.ensures ∙ c.read_part.ensures.part) whole in
+    let wrote = session_of _ _ _ _ (c.new-lines.ensures ∙ c.read_part.ensures) whole in
     let counted = session_counted c.args.input.now in
     record { len = ended_len _ _ _ _ refl refl wrote counted; bytes = ended_bytes _ _ _ _ refl refl wrote counted _ (search rules) }

@@ -1,11 +1,11 @@
-use Rattle.std.proofs.Common.{◌≡◌, ◌+◌, ◌%◌, ◌^◌, ◌≤◌, [], ◌∷◌, ◌++◌, cond, map, length, take, drop, refl, sym, ap, ◌∙◌, subst, le_trans, rules}
+use Rattle.std.proofs.Common.{◌≡◌, ◌+◌, ◌≤◌, ◌++◌, map, length, take, drop, refl, sym, ap, ◌∙◌, subst, le_trans, rules}
 use lib.ListN.{length-map}
 use Rattle.std.proofs.lemmas.List.{take_all}
 use Rattle.bits.specs.Packing.{room, packed}
-use Rattle.bits.specs.Writing.{Written}
+use Rattle.bits.specs.Writing.{Written, pushed}
 use Rattle.numlist.specs.Parts.{above, listed}
 use Rattle.numlist.proofs.Aboves.{above-none, above_more, above-fewer, room_mono}
-use Rattle.numlist.proofs.Pushes.{made_part}
+use Rattle.numlist.proofs.Pushes.{made_part, pushed_made}
 use Rattle.numlist.proofs.above.Above.put_each.Goals as goal
 
 pub loop-number-init : goal.loop-number-init
@@ -21,7 +21,7 @@ loop-number-init g c = record {
 pub loop-number-preserved : goal.loop-number-preserved
 loop-number-preserved g c = record {
   callable = search rules;
-  lent = c.push_if.ensures.lent ∙ c.loop-number.invariant.lent;
+  lent = c.push_some.ensures.lent ∙ c.loop-number.invariant.lent;
   written = λ f made within.
       let w = c.args.width.bits in
       let k = c.self.inside.skip in
@@ -29,18 +29,15 @@ loop-number-preserved g c = record {
       let i = c.loop-number.number-index in
       let out = c.args.out.now in
       let so_far = above k (take i xs) in
-      let o = c.part-part.result in
-      let there = c.is_some.result in
-      let n = c.made.result % 2 ^ w in
-      let more = above_more k xs i c.loop-number-test.true in
-      let same : map f (above k (take (i + 1) xs)) ≡ map f so_far ++ cond there (n ∷ []) [] =
-      ap (map f) (more ∙ ap (λ p. so_far ++ listed p) (sym c.part-part.ensures))
-      ∙ made_part f so_far o n there c.is_some.ensures (made c.unwrap_or.result c.made.result c.made.ensures ∙ ap f c.unwrap_or.ensures)
+      let one : pushed w c.map.result ≡ map f (listed c.part-part.result) = pushed_made w f _ _ _ made c.map.ensures.cases in
+      let same : map f so_far ++ pushed w c.map.result ≡ map f (above k (take (i + 1) xs)) =
+      made_part w f so_far c.part-part.result c.map.result one
+      ∙ ap (map f) (ap (λ p. so_far ++ listed p) c.part-part.ensures ∙ sym (above_more k xs i c.loop-number-test.true))
       in
       let all : room w (length (above k (take (i + 1) xs))) ≤ length out = le_trans (room_mono w (above-fewer k xs (i + 1))) within in
-      let long : length (above k (take (i + 1) xs)) ≡ length (map f so_far ++ cond there (n ∷ []) []) = sym (length-map (above k (take (i + 1) xs)) f) ∙ ap length same in
-      subst (Written w c.push_if.new.self out) (sym same)
-      (c.push_if.ensures.written out (map f so_far) (subst (λ m. room w m ≤ length out) long all) (c.loop-number.invariant.written f made within));
+      let long : length (above k (take (i + 1) xs)) ≡ length (map f so_far ++ pushed w c.map.result) = sym (length-map (above k (take (i + 1) xs)) f) ∙ ap length (sym same) in
+      subst (Written w c.push_some.new.self out) same
+      (c.push_some.ensures.written out (map f so_far) (subst (λ m. room w m ≤ length out) long all) (c.loop-number.invariant.written f made within));
 }
 
 pub returns : goal.returns
