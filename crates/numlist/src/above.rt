@@ -42,7 +42,7 @@ impl<'a> Above<'a> {
     }
 
     /// The bits above the lowest ones of each of these numbers, zeros left out.
-    pub(crate) fn higher(&self, width: Width) -> Above<'a>
+    pub fn higher(&self, width: Width) -> Above<'a>
         ensures { result ≡ parts width.bits self.now }
     {
         Above {
@@ -51,8 +51,8 @@ impl<'a> Above<'a> {
         }
     }
 
-    /// How many numbers there are.
-    pub(crate) fn count(&self) -> Count
+    /// How many numbers there are. A loop, since which numbers are there cannot be foreseen, and a `filter` would branch at each.
+    pub fn count(&self) -> Count
         ensures { result.numbers ≡ length self.now }
     {
         let mut count = 0;
