@@ -63,14 +63,14 @@ impl<'a> Above<'a> {
     }
 
     /// Puts the lowest bits of each number.
-    pub(crate) fn put_lows(&self, width: Width, out: &mut [u8])
+    pub fn put_lows(&self, width: Width, out: &mut [u8])
         ensures { room width.bits (length self.now) ≤ length out.old → out.new ≡ packed width.bits (lows width.bits self.now) ++ drop (room width.bits (length self.now)) out.old }
     {
         self.put_each(width, |number| number, out);
     }
 
     /// Puts a mark for each number: 1 where it has more bits than the width.
-    pub(crate) fn put_marks(&self, width: Width, out: &mut [u8])
+    pub fn put_marks(&self, width: Width, out: &mut [u8])
         ensures { room 1 (length self.now) ≤ length out.old → out.new ≡ packed 1 (marks width.bits self.now) ++ drop (room 1 (length self.now)) out.old }
     {
         self.put_each(

@@ -34,6 +34,7 @@ pub enum LayerLayout<B> {
     Parted(CutLayout<B>),
 }
 
+// Each method asks the list, or the cut over it: the language has no way to hand a trait on.
 impl<L: NumberList> NumberList for Layer<L> {
     type Layout = LayerLayout<L::Layout>;
 

@@ -2,7 +2,7 @@
 ghost use Rattle.std.specs.Prelude.{◌≡◌};
 ghost use Rattle.spot.specs.Refusals.{make_number, pack_number};
 
-/// The list does not reach 42 bits, or reaches more than 64.
+/// The list does not reach 42 bits, which codes need.
 #[derive(Clone, Copy, Debug, PartialEq, Eq)]
 pub struct MakeRefused;
 

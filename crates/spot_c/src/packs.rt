@@ -70,8 +70,8 @@ pub extern "C" fn spot_pack(
     told(pack_new(code, bits, cuts, number, side, hits, cells, scratch, out))
 }
 
-/// The same before it is told in one number. The memory stays three slices, as C lends it: beside this function only
-/// `pack_hits` takes them all, and a struct of them would owe in each contract that its fields still lend what they lent.
+/// The same before it is told in one number. The memory stays three slices, as C lends it: a struct of them would owe in each
+/// contract that its fields still lend what they lent.
 fn pack_new(
     code: u32,
     bits: u32,
