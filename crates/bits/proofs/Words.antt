@@ -1,16 +1,15 @@
 -- Words of 64 bits out of bytes. Assumes nothing.
-use Rattle.std.proofs.Common.{◌≡◌, ℕ, zero, suc, ◌+◌, ◌-◌, ◌*◌, ◌/◌, ◌%◌, ◌^◌, ◌<◌, ◌≤◌, min, eqb, ltb, List, [], ◌∷◌, ◌++◌, length, get_or, take, drop, sym, refl, ap, ◌∙◌, subst, ⊎_elim, lt_of_lt_of_le, mod-lt, mod-eq_of_lt, mul-le-mul_left, mul-zero, mul-suc, arith, lit<, lit≤, length-append, length-drop, pow_pos, pow_mono, shr-shr, w8, Fits}
+use Rattle.std.proofs.Common.{◌≡◌, ℕ, zero, suc, ◌+◌, ◌-◌, ◌*◌, ◌/◌, ◌%◌, ◌^◌, ◌<◌, ◌≤◌, min, eqb, ltb, List, [], ◌∷◌, length, get_or, take, drop, sym, refl, ap, ◌∙◌, subst, ⊎_elim, lt_of_lt_of_le, mod-lt, mod-eq_of_lt, mul-le-mul_left, mul-zero, mul-suc, arith, lit<, lit≤, length-drop, pow_pos, pow_mono, shr-shr, w8, Fits}
 use native.Mathlib.Nat.{div-eq_of_lt, zero-div}
 use lib.Pow.{high, low, field}
-use borrow.Rule.Slice.PartMut.{put_mid}
 use Rattle.std.specs.Int.{from_le_bytes, w64}
 use Rattle.std.specs.Simd.{first_chunks}
 use Rattle.std.proofs.lemmas.List.{drop_all, drop-drop, drop_more, get_or-take, get_or_past, length-take-le, take_all}
 use Rattle.std.proofs.lemmas.Bool.{cases_lt, eq-eqb, ne_eqb, lt-ltb, le-ltb}
 use Rattle.std.proofs.lemmas.Nat.{le-div}
 use Rattle.std.proofs.ByRecursion.{All-drop, All-get_or, All-from_get_or}
-use Rattle.bits.specs.Packing.{value, digits, Narrow}
-use Rattle.bits.proofs.Digits.{narrow-digits, value-narrow, value-append}
+use Rattle.bits.specs.Packing.{value, Narrow}
+use Rattle.bits.proofs.Digits.{value-narrow}
 use Rattle.bits.proofs.Packings.{mod_fewer, value-take}
 
 -- what is behind the first k digits, be there fewer or not
@@ -127,27 +126,6 @@ chunk_word bytes d words i chunks narrow few h cut =
     ap (from_le_bytes w64) (get_or-take words chunks i d h ∙ ap (λ l. get_or l i d) cut ∙ chunk_at k i bytes d one)
     ∙ word_at bytes (8 * i) narrow (omega arith)
 
--- what is left of the bytes, with zeros behind it up to eight bytes
-pub last_bytes :
-    (bytes : List ℕ) (from start : ℕ) (copied : List ℕ) → Narrow 8 bytes → length bytes < from + 8 → start ≡ min from (length bytes)
-    → copied ≡ take (length bytes - start) (drop start bytes)
-    → from_le_bytes w64 (put_mid 0 (length (take (length bytes - start) (drop start bytes))) (0 ∷ 0 ∷ 0 ∷ 0 ∷ 0 ∷ 0 ∷ 0 ∷ 0 ∷ []) copied)
-    ≡ value 8 bytes / 2 ^ (8 * from) % 2 ^ 64
-unfolding value digits
-last_bytes bytes from start copied narrow few is same =
-    let zeros : List ℕ = 0 ∷ 0 ∷ 0 ∷ 0 ∷ 0 ∷ 0 ∷ 0 ∷ 0 ∷ [] in
-    let rest = take (length bytes - start) (drop start bytes) in
-    let k = length rest in
-    let left : rest ≡ drop from bytes = rest_is bytes from start is in
-    let short : k ≤ 8 = omega (arith, ap length left, length-drop from bytes) in
-    let long : length (copied ++ drop k zeros) ≡ 8 = omega (arith, length-append copied (drop k zeros), length-drop k zeros, ap length same) in
-    let none : value 8 (drop k zeros) ≡ 0 = value-behind 8 k zeros (narrow-digits 8 8 0) ∙ zero-div (2 ^ (8 * k)) in
-    word_value (copied ++ drop k zeros) long
-    ∙ value-append 8 copied (drop k zeros)
-    ∙ omega (arith, ap (λ n. n * 2 ^ (8 * length copied)) none)
-    ∙ ap (value 8) (same ∙ left)
-    ∙ few_bytes bytes from narrow few
-
 -- the field of a word
 pub field_of_word : (n at w : ℕ) → w ≤ 48 → n / 2 ^ (8 * (at / 8)) % 2 ^ 64 / 2 ^ (at % 8) % 2 ^ w ≡ n / 2 ^ at % 2 ^ w
 field_of_word n at w h =
@@ -161,9 +139,9 @@ field_of_word n at w h =
     ∙ ap (λ m. m % 2 ^ w) (shr-shr n (8 * (at / 8)) k ∙ ap (λ b. n / 2 ^ b) place)
 
 -- no bit is 1 behind the bytes
-past_bytes : (bytes : List ℕ) (p : ℕ) → Narrow 8 bytes → length bytes ≤ p → value 8 bytes / 2 ^ (8 * p) ≡ 0
-past_bytes bytes p narrow past =
-    let far : 8 * length bytes ≤ 8 * p = omega arith in
+pub past_bytes : (bytes : List ℕ) (at : ℕ) → Narrow 8 bytes → length bytes ≤ at / 8 → value 8 bytes / 2 ^ at ≡ 0
+past_bytes bytes at narrow past =
+    let far : 8 * length bytes ≤ at = omega arith in
     div-eq_of_lt (lt_of_lt_of_le (value-narrow 8 bytes narrow) (pow_mono far))
 
 -- the byte at a place, 0 past the end
@@ -179,7 +157,7 @@ byte_at bytes p narrow = ⊎_elim inside past (cases_lt p (length bytes))
         last ∙ ap (λ n. n % 2 ^ 8) (sym (value-more 8 bytes p (p + 1) refl h) ∙ value-behind 8 p bytes narrow)
 
     past : length bytes ≤ p → get_or bytes p 0 ≡ value 8 bytes / 2 ^ (8 * p) % 2 ^ 8
-    past h = get_or_past bytes p 0 h ∙ sym (ap (λ n. n % 2 ^ 8) (past_bytes bytes p narrow h))
+    past h = get_or_past bytes p 0 h ∙ sym (ap (λ n. n % 2 ^ 8) (past_bytes bytes (8 * p) narrow (omega arith)))
 
 -- the bit of a byte
 pub bit_of_byte : (n at : ℕ) → n / 2 ^ (8 * (at / 8)) % 2 ^ 8 / 2 ^ (at % 8) % 2 ^ 1 ≡ n / 2 ^ at % 2 ^ 1

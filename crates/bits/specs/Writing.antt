@@ -3,14 +3,14 @@ use Rattle.std.specs.Prelude.{◌≡◌, ℕ, ◌+◌, ◌*◌, ◌%◌, ◌^◌
 use Rattle.bits.specs.Packing.{value}
 use Rattle.bits.specs.declared.pen.Pen.{Pen}
 
--- the numbers xs of w bits are written at the front of the pen's bytes, which were start before: the whole bytes are among
--- them, the other bits are still with the pen, and the bytes behind are as they were
-pub record Written (w : ℕ) (p : Pen) (start xs : List ℕ) : Type 0 where
+-- the numbers xs of w bits are written at the front of the bytes start, which are out now: the whole bytes are in out, the
+-- other bits are still with the pen, and the bytes behind are as they were
+pub record Written (w : ℕ) (p : Pen) (start out xs : List ℕ) : Type 0 where
   pub counted : 8 * p.at + p.fill ≡ w * length xs
   pub within : p.at ≤ length start
-  pub long : length p.out.now ≡ length start
-  pub held : value w xs ≡ p.bits * 2 ^ (8 * p.at) + value 8 (take p.at p.out.now)
-  pub behind : drop p.at p.out.now ≡ drop p.at start
+  pub long : length out ≡ length start
+  pub held : value w xs ≡ p.bits * 2 ^ (8 * p.at) + value 8 (take p.at out)
+  pub behind : drop p.at out ≡ drop p.at start
 
 -- what is written of a number that may not be there: its lowest w bits, or nothing
 abbrev pub pushed : ℕ → Option ℕ → List ℕ

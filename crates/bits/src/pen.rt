@@ -3,11 +3,9 @@ ghost use Rattle.std.specs.Prelude.{◌^◌, ◌<◌};
 
 mod writing;
 
-/// Lent bytes that packed numbers are written into, from the front on: `at` bytes are written, and the last `fill` bits are
-/// not yet.
-#[derive(Drop)]
-pub struct Pen<'a> {
-    out: &'a mut [u8],
+/// Where the writing of packed numbers stands: `at` bytes are written, and the last `fill` bits are not yet.
+#[derive(Clone, Copy)]
+pub struct Pen {
     at: usize,
     bits: u64,
     fill: u32,

@@ -75,15 +75,15 @@ pub(crate) fn whole_word(bytes: &[u8], from: usize) -> u64
     ])
 }
 
-// The bytes that are left, with 0 behind them. It stays a call, so that the way of whole words copies nothing.
-#[cold]
-#[inline(never)]
+// The bytes that are left, with 0 behind them. It calls itself, and so stays a call: the way of whole words has no loop in it.
+// Byte by byte: a copy of so many bytes is a call of `memcpy`, which takes longer for so few, and which the library for callers
+// in C would need from outside.
 fn last_word(bytes: &[u8], from: usize) -> u64
     requires { length bytes.now < from + 8 }
     ensures { result ≡ value 8 bytes.now / 2 ^ (8 * from) % 2 ^ 64 }
 {
-    let rest = &bytes[from.min(bytes.len())..];
-    let mut word = [0; 8];
-    word[..rest.len()].copy_from_slice(rest);
-    u64::from_le_bytes(word)
+    if from >= bytes.len() {
+        return 0;
+    }
+    last_word(bytes, from + 1) * 256 + u64::from(bytes[from])
 }

@@ -1,5 +1,5 @@
 -- The numbers that a list k bits up has, one by one. Assumes nothing.
-use Rattle.std.proofs.Common.{◌≡◌, ℕ, zero, suc, ◌+◌, ◌*◌, ◌/◌, ◌^◌, ◌<◌, ◌≤◌, true, not, eqb, ltb, List, [], ◌∷◌, ◌++◌, map, length, get_or, take, drop, Some, None, filter, Option, sym, refl, ap, ◌∙◌, inl, inr, ⊎_elim, mod-eq_of_lt, mul-le-mul_left, arith, length-append, take-append-drop, w64, Fits}
+use Rattle.std.proofs.Common.{◌≡◌, ℕ, zero, suc, ◌+◌, ◌*◌, ◌/◌, ◌^◌, ◌<◌, ◌≤◌, min, true, not, ◌&&◌, eqb, ltb, List, [], ◌∷◌, ◌++◌, map, length, get_or, take, drop, Some, None, filter, Option, sym, refl, ap, ◌∙◌, inl, inr, ⊎_elim, mod-eq_of_lt, mul-le-mul_left, arith, length-append, take-append-drop, pow_mono, w64, Fits}
 use native.Mathlib.Nat.{div-eq_of_lt}
 use Rattle.std.proofs.lemmas.List.Elements.{filter-append}
 use Rattle.std.proofs.ByRecursion.{All-from_get_or}
@@ -56,6 +56,20 @@ narrow-true w [] e = tt
 narrow-true w (x ∷ xs) e =
     let p = and_parts (ltb x (2 ^ w)) (narrow w xs) e in
     (ltb-true x (2 ^ w) p.0, narrow-true w xs p.1)
+
+-- numbers of 64 bits, where the width may be greater
+pub narrow-min : (w : ℕ) (xs : List ℕ) → Narrow 64 xs → narrow (min 64 w) xs ≡ narrow w xs
+narrow-min w [] fits = refl
+narrow-min w (x ∷ xs) fits = (λ i. same i && narrow-min w xs fits.1 i)
+  where
+    same : ltb x (2 ^ min 64 w) ≡ ltb x (2 ^ w)
+    same = ⊎_elim
+        (λ h. let e : min 64 w ≡ w = omega arith in ap (λ n. ltb x (2 ^ n)) e)
+        (λ h.
+        let e : min 64 w ≡ 64 = omega arith in
+        let more : 2 ^ 64 ≤ 2 ^ w = pow_mono h in
+        ap (λ n. ltb x (2 ^ n)) e ∙ lt-ltb x (2 ^ 64) fits.0 ∙ sym (lt-ltb x (2 ^ w) (omega (arith, fits.0))))
+        (cases_lt w 64)
 
 pub above-none : (k : ℕ) → above k [] ≡ []
 above-none zero = refl

@@ -37,6 +37,3 @@ fixed_sound w some = record {
   small = λ xs narrow few. rw (length-packed w xs) (omega arith);
   bytes = λ xs narrow few. narrow-packed w xs;
 }
-
-pub fixed_within : (w : ℕ) → w ≤ 48 → (fixed w).reach ≤ 64
-fixed_within w small = omega arith

@@ -2,11 +2,11 @@
 ghost use Rattle.std.specs.Prelude.{◌≡◌, ℕ, ◌%◌, ◌^◌, ◌≤◌, ◌<◌, List, ◌++◌, map, length, drop, if◌then◌else◌, MatchOption};
 ghost use Rattle.bits.specs.Packing.{room, packed};
 ghost use Rattle.numlist.specs.Lists.{most};
-ghost use Rattle.numlist.specs.Parts.{parts, lows, marks};
+ghost use Rattle.numlist.specs.Parts.{above, parts, lows, marks};
 
 use crate::parts::{is_marked, part};
 use crate::{Count, MOST_NUMBERS};
-use bits::{Pen, Width};
+use bits::{Width, Writer};
 use std::marker::Model;
 
 /// The numbers that a list has which lies some bits up: in place of each number its bits above the lowest ones, zeros left
@@ -51,6 +51,15 @@ impl<'a> Above<'a> {
         }
     }
 
+    /// All numbers, and how many of the lowest bits of each these are without. For a list that goes through them by itself.
+    pub fn source(&self) -> (&'a [u64], u32)
+        ensures same { above result.1 result.0.now ≡ self.now }
+        ensures skip { result.1 ≤ 64 }
+        ensures few { length result.0.now ≤ most }
+    {
+        (self.numbers, self.skip)
+    }
+
     /// How many numbers there are. A loop, since which numbers are there cannot be foreseen, and a `filter` would branch at each.
     pub fn count(&self) -> Count
         ensures { result.numbers ≡ length self.now }
@@ -86,11 +95,11 @@ impl<'a> Above<'a> {
         requires { F.IsAlwaysCallable made }
         ensures { (f : ℕ → ℕ) → ((x r : ℕ) → F.post made x r → r % 2 ^ width.bits ≡ f x) → room width.bits (length self.now) ≤ length out.old → out.new ≡ packed width.bits (map f self.now) ++ drop (room width.bits (length self.now)) out.old }
     {
-        let mut pen = Pen::new(out);
+        let mut writer = Writer::new(out);
         for number in self.numbers {
             let part = part(*number, self.skip);
-            pen.push_some(width, part.map(&made));
+            writer.push_some(width, part.map(&made));
         }
-        pen.finish();
+        writer.finish();
     }
 }

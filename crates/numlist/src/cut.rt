@@ -9,29 +9,15 @@ use crate::parts::put_directory;
 use crate::places::Sections;
 use crate::{Above, Count, CutRefused, ListFault, NumberList, Places, Test};
 use bits::Width;
-use std::alloc::AllocError;
 
 /// The most bits that a cut keeps.
 pub const MOST_CUT_BITS: u32 = 16;
 
 /// A list over another one, which gets the bits above the lowest ones.
-pub struct Cut<L: NumberList> {
+#[derive(Clone, Copy)]
+pub struct Cut<L> {
     width: Width,
     below: L,
-    ghost within: { width.bits + (L.NumberList.meaning below).reach ≤ 64 },
-}
-
-// By hand, since a derive is refused over a ghost field that names a bound.
-impl<L: NumberList + Copy> Copy for Cut<L> {}
-
-impl<L: NumberList + Copy> Clone for Cut<L> {
-    ghost is_clone = { λ cut copy. copy ≡ cut };
-
-    ghost is_infallible = { λ _. Unit {0} };
-
-    fn clone(&self) -> Result<Self, AllocError> {
-        Ok(*self)
-    }
 }
 
 /// Where the sections of a cut lie, how many marks are 1, and where those of the list below lie.
@@ -67,10 +53,12 @@ impl<L: NumberList> NumberList for Cut<L> {
 
     ghost sound = { λ s. cut_sound s.width.bits (L.NumberList.meaning s.below) s.width.low (L.NumberList.sound s.below) };
 
-    ghost within = { λ s. s.within };
-
     fn reach(&self) -> u32 {
-        self.width.bits() + self.below.reach()
+        (self.width.bits() + self.below.reach()).min(64)
+    }
+
+    fn is_past_64(&self) -> bool {
+        self.width.bits() + self.below.reach() > 64
     }
 
     fn size(&self, numbers: &Above<'_>) -> usize {

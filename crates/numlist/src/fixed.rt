@@ -3,7 +3,7 @@ ghost use Rattle.std.specs.Prelude.{◌≡◌, ◌^◌, ◌<◌, is_ok, IfOk, sl
 ghost use Rattle.bits.specs.Packing.{room, unpacked};
 ghost use Rattle.bits.specs.Widths.{allowed};
 ghost use Rattle.numlist.specs.Fixed.{fixed};
-ghost use Rattle.numlist.specs.FixedSound.{fixed_sound, fixed_within};
+ghost use Rattle.numlist.specs.FixedSound.{fixed_sound};
 
 use crate::{Above, Count, ListFault, NumberList, Test, WidthRefused};
 use bits::{Width, is_filled, read};
@@ -51,10 +51,12 @@ impl NumberList for Fixed {
 
     ghost sound = { λ s. fixed_sound s.width.bits s.width.low };
 
-    ghost within = { λ s. fixed_within s.width.bits s.width.high };
-
     fn reach(&self) -> u32 {
         self.width.bits()
+    }
+
+    fn is_past_64(&self) -> bool {
+        false
     }
 
     fn size(&self, numbers: &Above<'_>) -> usize {

@@ -1,5 +1,5 @@
 //! What every number list can do.
-ghost use Rattle.std.specs.Prelude.{◌≡◌, ℕ, ◌-◌, ◌%◌, ◌^◌, ◌<◌, ◌≤◌, min, List, ◌++◌, length, drop, is_ok, Ok, Err, ◌≢◌, slice_index};
+ghost use Rattle.std.specs.Prelude.{◌≡◌, ℕ, ◌-◌, ◌%◌, ◌^◌, ◌<◌, ◌≤◌, min, List, ◌++◌, length, drop, is_ok, nat_lt, Ok, Err, ◌≢◌, slice_index};
 ghost use Rattle.bits.specs.Packing.{Narrow};
 ghost use Rattle.numlist.specs.Calls.{write_answer, written, open_answer};
 ghost use Rattle.numlist.specs.Cuts.{nonzero};
@@ -14,7 +14,7 @@ pub const MOST_NUMBERS: usize = 1_048_576;
 
 /// A way to make one string of bytes of many numbers, and to read them in it.
 ///
-/// `write`, `open`, `read` and `reach` are for everyone. The other calls are what a list built over another one
+/// `write`, `open`, `read`, `reach` and `is_past_64` are for everyone. The other calls are what a list built over another one
 /// asks of it.
 pub trait NumberList {
     /// Where the sections of a string lie, found one time for many reads.
@@ -26,7 +26,11 @@ pub trait NumberList {
 
     /// The most bits of a number, at most 64.
     fn reach(&self) -> u32
-        ensures { result ≡ (meaning self.now).reach };
+        ensures { result ≡ min 64 (meaning self.now).reach };
+
+    /// Whether a number may have more than 64 bits.
+    fn is_past_64(&self) -> bool
+        ensures { result ≡ nat_lt 64 (meaning self.now).reach };
 
     /// The bytes that the string of the numbers takes, or as many as can be told.
     fn size(&self, numbers: &Above<'_>) -> usize
@@ -39,7 +43,7 @@ pub trait NumberList {
     /// The bytes of the string of so many numbers with which bytes begin, or their first fault.
     fn judge(&self, bytes: &[u8], count: Count) -> Result<usize, ListFault>
         ensures bound { elim result [ Ok n ↦ n ≤ length bytes.now | Err fault ↦ fault.level < (meaning self.now).reach ] }
-        ensures verdict { result ≡ (meaning self.now).verdict bytes.now count.numbers };
+        ensures verdict { (meaning self.now).reach ≤ 64 → result ≡ (meaning self.now).verdict bytes.now count.numbers };
 
     /// Whether none of the numbers of a string is 0.
     fn has_no_zero(&self, bytes: &[u8], count: Count) -> bool
@@ -81,7 +85,7 @@ pub trait NumberList {
 
     /// The bytes of the string of `m` numbers with which bytes begin, or why they begin with none.
     fn open(&self, bytes: &[u8], m: usize) -> Result<usize, OpenRefused>
-        ensures { result ≡ open_answer (meaning self.now) bytes.now m }
+        ensures { (meaning self.now).reach ≤ 64 → result ≡ open_answer (meaning self.now) bytes.now m }
     {
         let count = Count::new(m).ok_or(OpenRefused::TooMany)?;
         Ok(self.judge(bytes, count)?)
@@ -91,7 +95,7 @@ pub trait NumberList {
     fn read(&self, bytes: &[u8], m: usize, i: usize) -> Result<u64, ReadRefused>
         ensures many { most < m → result ≡ Err ReadRefused.TooMany }
         ensures none { m ≤ most → m ≤ i → result ≡ Err ReadRefused.NoNumber }
-        ensures number { (n : ℕ) → m ≤ most → i < m → (meaning self.now).verdict bytes.now m ≡ Ok n → result ≡ Ok (slice_index ((meaning self.now).numbers bytes.now m) i) }
+        ensures number { (n : ℕ) → m ≤ most → i < m → (meaning self.now).reach ≤ 64 → (meaning self.now).verdict bytes.now m ≡ Ok n → result ≡ Ok (slice_index ((meaning self.now).numbers bytes.now m) i) }
         ensures others { m ≤ most → i < m → elim result [ Ok _ ↦ Unit {0} | Err refusal ↦ read_number refusal ≡ 13 ] }
     {
         let count = Count::new(m).ok_or(ReadRefused::TooMany)?;
@@ -103,6 +107,4 @@ pub trait NumberList {
     }
 
     ghost sound: { (s : Self) → Sound (meaning s) };
-
-    ghost within: { (s : Self) → (meaning s).reach ≤ 64 };
 }

@@ -5,7 +5,7 @@ ghost use Rattle.numlist.specs.Calls.{narrow};
 ghost use Rattle.numlist.specs.Parts.{part_of, marked, entries, directory};
 
 use crate::Count;
-use bits::{Pen, Width, ones};
+use bits::{Width, Writer, ones};
 
 /// Whether each number has at most so many bits.
 pub(crate) fn is_narrow(numbers: &[u64], bits: u32) -> bool
@@ -45,11 +45,11 @@ pub(crate) fn is_marked(number: u64, width: Width) -> bool
 pub(crate) fn put_directory(marks: &[u8], count: Count, out: &mut [u8])
     ensures { 4 * entries count.numbers ≤ length out.old → out.new ≡ packed 32 (directory (unpacked 1 count.numbers marks.now)) ++ drop (4 * entries count.numbers) out.old }
 {
-    let mut pen = Pen::new(out);
+    let mut writer = Writer::new(out);
     let mut before = 0;
     for group in 0..(count.numbers + 255) / 256 {
-        pen.push_count(before as u32);
+        writer.push_count(before as u32);
         before += ones(marks, 32 * group, (count.numbers - 256 * group).min(256));
     }
-    pen.finish();
+    writer.finish();
 }

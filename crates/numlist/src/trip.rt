@@ -13,7 +13,7 @@ pub fn comes_back<L: NumberList>(
     numbers: &[u64],
     out: &mut [u8],
 ) -> Result<bool, WriteRefused>
-    ensures answer { result ≡ all_back (write_answer (L.NumberList.meaning list.now) numbers.now (length out.old)) }
+    ensures answer { (L.NumberList.meaning list.now).reach ≤ 64 → result ≡ all_back (write_answer (L.NumberList.meaning list.now) numbers.now (length out.old)) }
     ensures bytes { out.new ≡ written (L.NumberList.meaning list.now) numbers.now out.old (is_ok result) }
 {
     list.write(numbers, out)?;
@@ -21,13 +21,13 @@ pub fn comes_back<L: NumberList>(
 }
 
 fn is_open<L: NumberList>(list: &L, bytes: &[u8], numbers: &[u64]) -> bool
-    ensures { (rest : List ℕ) → Narrow (L.NumberList.meaning list.now).reach numbers.now → length numbers.now ≤ most → bytes.now ≡ (L.NumberList.meaning list.now).string numbers.now ++ rest → result ≡ true }
+    ensures { (rest : List ℕ) → (L.NumberList.meaning list.now).reach ≤ 64 → Narrow (L.NumberList.meaning list.now).reach numbers.now → length numbers.now ≤ most → bytes.now ≡ (L.NumberList.meaning list.now).string numbers.now ++ rest → result ≡ true }
 {
     list.open(bytes, numbers.len()).is_ok()
 }
 
 fn all_there<L: NumberList>(list: &L, bytes: &[u8], numbers: &[u64]) -> bool
-    ensures { (rest : List ℕ) → Narrow (L.NumberList.meaning list.now).reach numbers.now → length numbers.now ≤ most → bytes.now ≡ (L.NumberList.meaning list.now).string numbers.now ++ rest → result ≡ true }
+    ensures { (rest : List ℕ) → (L.NumberList.meaning list.now).reach ≤ 64 → Narrow (L.NumberList.meaning list.now).reach numbers.now → length numbers.now ≤ most → bytes.now ≡ (L.NumberList.meaning list.now).string numbers.now ++ rest → result ≡ true }
 {
     numbers.iter().enumerate().all(|(i, number)| list.read(bytes, numbers.len(), i) == Ok(*number))
 }

@@ -1,30 +1,17 @@
 //! A cut that may be left out.
 ghost use Rattle.std.specs.Prelude.{◌≡◌};
 ghost use Rattle.pile.specs.Layers.{layered, Laid};
-ghost use Rattle.pile.specs.LayerSound.{layer_sound, layer_within};
+ghost use Rattle.pile.specs.LayerSound.{layer_sound};
 
 use numlist::{Above, Count, Cut, CutLayout, ListFault, NumberList, Test};
-use std::alloc::AllocError;
 
 /// A list, or a cut over it.
-pub enum Layer<L: NumberList> {
+#[derive(Clone, Copy)]
+pub enum Layer<L> {
     /// The list itself.
     Bare(L),
     /// A cut over the list.
     Over(Cut<L>),
-}
-
-// By hand, as of the cut in it: a derive is refused over a ghost field that names a bound.
-impl<L: NumberList + Copy> Copy for Layer<L> {}
-
-impl<L: NumberList + Copy> Clone for Layer<L> {
-    ghost is_clone = { λ layer copy. copy ≡ layer };
-
-    ghost is_infallible = { λ _. Unit {0} };
-
-    fn clone(&self) -> Result<Self, AllocError> {
-        Ok(*self)
-    }
 }
 
 /// Where the sections lie.
@@ -44,12 +31,17 @@ impl<L: NumberList> NumberList for Layer<L> {
 
     ghost sound = { λ s. layer_sound L.NumberList.meaning L.NumberList.sound s };
 
-    ghost within = { λ s. layer_within s L.NumberList.within };
-
     fn reach(&self) -> u32 {
         match self {
             Layer::Bare(list) => list.reach(),
             Layer::Over(cut) => cut.reach(),
+        }
+    }
+
+    fn is_past_64(&self) -> bool {
+        match self {
+            Layer::Bare(list) => list.is_past_64(),
+            Layer::Over(cut) => cut.is_past_64(),
         }
     }
 

@@ -1,5 +1,5 @@
 //! Piles: a fixed list under some cuts.
-ghost use Rattle.std.specs.Prelude.{◌≡◌, Ok, Err};
+ghost use Rattle.std.specs.Prelude.{◌≡◌, ◌≤◌, IfOk, Ok, Err};
 ghost use Rattle.pile.specs.Layers.{layered};
 ghost use Rattle.pile.specs.Piles.{pile_of, Grown};
 
@@ -14,7 +14,8 @@ pub type Pile = Layer<Layer<Layer<Layer<Fixed>>>>;
 
 /// The pile of a fixed list of so many bits and cuts of these widths over it, the lowest one first.
 pub fn new_pile(bits: u32, cuts: &[u32]) -> Result<Pile, PileRefused>
-    ensures { elim result [ Ok pile ↦ pile_of bits cuts.now ≡ Ok (⟦<Pile as NumberList>⟧.meaning pile) | Err refusal ↦ pile_of bits cuts.now ≡ Err refusal ] }
+    ensures reach { IfOk result (λ pile. (⟦<Pile as NumberList>⟧.meaning pile).reach ≤ 64) }
+    ensures pile { elim result [ Ok pile ↦ pile_of bits cuts.now ≡ Ok (⟦<Pile as NumberList>⟧.meaning pile) | Err refusal ↦ pile_of bits cuts.now ≡ Err refusal ] }
 {
     let fixed = Fixed::new(bits)?;
     let one = layer(fixed, cuts, 0)?;

@@ -41,7 +41,7 @@ impl<C: CellCode + Copy, L: NumberList + Copy> Make<C, L> {
     pub fn new(code: C, list: L, number: u16) -> Result<Make<C, L>, MakeRefused>
         ensures { elim result [ Ok make ↦ Wide (making (C.CellCode.code code) (L.NumberList.meaning list) number) × (make.code ≡ code) × (make.list ≡ list) × (make.number ≡ number) | Err _ ↦ (Wide (making (C.CellCode.code code) (L.NumberList.meaning list) number) → ⊥) ] }
     {
-        if list.reach() < CODE_BITS {
+        if list.reach() < CODE_BITS || list.is_past_64() {
             return Err(MakeRefused);
         }
         Ok(Make { code, list, number })

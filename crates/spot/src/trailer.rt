@@ -2,7 +2,7 @@
 ghost use Rattle.std.specs.Prelude.{◌≡◌, ◌+◌, ◌*◌, ◌≤◌, ◌++◌, length, drop};
 ghost use Rattle.spot.specs.Spots.{trailer_bytes, edition};
 
-use bits::Pen;
+use bits::Writer;
 use grid::Cell;
 
 /// How many bytes a trailer has.
@@ -32,14 +32,14 @@ impl Trailer {
         requires { 24 ≤ length out.old }
         ensures { out.new ≡ trailer_bytes self ++ drop 24 out.old }
     {
-        let mut pen = Pen::new(out);
-        pen.push_count(self.length);
-        pen.push_count(self.hits);
-        pen.push_count(self.root.x);
-        pen.push_count(self.root.y);
-        pen.push_count(self.side);
-        pen.push_count(tag(self.make));
-        pen.finish();
+        let mut writer = Writer::new(out);
+        writer.push_count(self.length);
+        writer.push_count(self.hits);
+        writer.push_count(self.root.x);
+        writer.push_count(self.root.y);
+        writer.push_count(self.side);
+        writer.push_count(tag(self.make));
+        writer.finish();
     }
 }
 

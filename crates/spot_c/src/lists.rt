@@ -1,5 +1,5 @@
 //! Number lists: piles that are given by their widths.
-ghost use Rattle.std.specs.Prelude.{◌≡◌, [], ◌∷◌, length, IfSome, Ok};
+ghost use Rattle.std.specs.Prelude.{◌≡◌, ◌≤◌, [], ◌∷◌, length, IfSome, Ok};
 ghost use Rattle.numlist.specs.Cuts.{cut};
 ghost use Rattle.numlist.specs.Fixed.{fixed};
 ghost use Rattle.pile.specs.Piles.{pile_of};
@@ -96,7 +96,8 @@ fn read_each<L: NumberList>(
     count: usize,
     places: &mut [u64],
 ) -> Result<(), Refused>
-    ensures { ReadTold (L.NumberList.meaning list.now) bytes.now count places.old places.new (done_told result) }
+    ensures { (L.NumberList.meaning list.now).reach ≤ 64
+        → ReadTold (L.NumberList.meaning list.now) bytes.now count places.old places.new (done_told result) }
 {
     let count = Count::new(count).ok_or(ReadRefused::TooMany)?;
     let layout = list.layout(bytes, count).map_err(ReadRefused::from)?;
@@ -112,7 +113,8 @@ fn read_each_at<L: NumberList>(
     places: &mut [u64],
 ) -> Result<(), Refused>
     requires { L.NumberList.laid list.now bytes.now count.numbers layout.now }
-    ensures { ReadTold (L.NumberList.meaning list.now) bytes.now count.numbers places.old places.new (done_told result) }
+    ensures { (L.NumberList.meaning list.now).reach ≤ 64
+        → ReadTold (L.NumberList.meaning list.now) bytes.now count.numbers places.old places.new (done_told result) }
 {
     for place in places.iter_mut() {
         if *place >= count.get() as u64 {

@@ -11,7 +11,7 @@ use Rattle.numlist.proofs.Marks.{get_or-directory, group_sum, next_group}
 use Rattle.numlist.proofs.parts.put_directory.Goals as goal
 
 pub loop-group-init : goal.loop-group-init
-loop-group-init c = record { counted = refl; lent = refl; written = λ within. c.new-pen.ensures.written 32 }
+loop-group-init c = record { counted = refl; lent = refl; written = λ within. c.new-writer.ensures.written 32 }
 
 pub overflow_cast-before : goal.overflow_cast-before
 overflow_cast-before c =
@@ -53,7 +53,7 @@ loop-group-preserved c = record {
       let here : g < entries (length ms) = omega (arith, length-unpacked 1 m c.args.marks.now) in
       let is : c.loop-group.before ≡ get_or entry g 0 = c.loop-group.invariant.counted ∙ sym (get_or-directory ms g here) in
       let fits : room 32 (length (take g entry) + 1) ≤ length out = omega (arith, long, within, length-take-le g entry (omega arith)) in
-      subst (Written 32 c.push_count.new.self out) (ap (λ n. take g entry ++ n ∷ []) is ∙ sym (take_more entry g 0 inside))
+      subst (Written 32 c.push_count.new.self.pen out c.push_count.new.self.out.now) (ap (λ n. take g entry ++ n ∷ []) is ∙ sym (take_more entry g 0 inside))
       (c.push_count.ensures.written out (take g entry) fits (c.loop-group.invariant.written within));
 }
 
@@ -66,7 +66,7 @@ returns c within =
     let long : length entry ≡ entries m = length-directory ms ∙ ap entries (length-unpacked 1 m c.args.marks.now) in
     let whole : room 32 (length entry) ≡ 4 * entries m = omega (arith, long) in
     let all : take c.loop-group.group entry ≡ entry = take_all c.loop-group.group entry (omega (arith, long)) in
-    let written = subst (Written 32 c.loop-group.pen out) all (c.loop-group.invariant.written within) in
+    let written = subst (Written 32 c.loop-group.writer.pen out c.loop-group.writer.out.now) all (c.loop-group.invariant.written within) in
     search rules
     ∙ c.finish.ensures 32 out entry (subst (λ n. n ≤ length out) (sym whole) within) written
     ∙ ap (λ n. packed 32 entry ++ drop n out) whole

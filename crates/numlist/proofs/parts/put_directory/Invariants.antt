@@ -8,6 +8,6 @@ use Rattle.numlist.proofs.parts.put_directory.Given as goal
 abbrev pub invariant-loop-group : goal.invariant-loop-group
 invariant-loop-group l = record {
   counted : l.before ≡ sum (take (256 * l.group) (unpacked 1 l.count.numbers l.marks));
-  lent : l.pen.out.ghost_name ≡ l.initial.pen.out.ghost_name;
-  written : 4 * entries l.count.numbers ≤ length l.fn.out → Written 32 l.pen l.fn.out (take l.group (directory (unpacked 1 l.count.numbers l.marks)));
+  lent : l.writer.out.ghost_name ≡ l.initial.writer.out.ghost_name;
+  written : 4 * entries l.count.numbers ≤ length l.fn.out → Written 32 l.writer.pen l.fn.out l.writer.out.now (take l.group (directory (unpacked 1 l.count.numbers l.marks)));
 }

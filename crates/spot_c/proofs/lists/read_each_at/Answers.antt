@@ -5,7 +5,7 @@ use Rattle.spot_c.proofs.lists.read_each_at.Goals as goal
 
 -- the number at a place is that of the list, whole
 pub loop-place-preserved : goal.loop-place-preserved
-loop-place-preserved g c n accepted =
+loop-place-preserved g c n wide accepted =
     let L = g.L.NumberList.meaning c.args.list.now in
     let xs = L.numbers c.args.bytes.now c.args.count.numbers in
     let place = get_or c.loop-place.places c.loop-place.place-index 0 in
@@ -14,5 +14,5 @@ loop-place-preserved g c n accepted =
     let here : place < length xs = omega (arith, begins.count) in
     let found = rw (c.read_at.ensures n accepted) at c.in_ok-place.ensures.cases in
     let number : c.in_ok-place.field-0 ≡ get_or xs place 0 % 2 ^ 64 = cc in
-    looked_more _ _ _ _ _ _ (c.loop-place.invariant n accepted) (omega arith) (omega arith)
-    (number ∙ whole L.reach xs place (g.met.L.NumberList.within c.args.list.now) begins.narrow here)
+    looked_more _ _ _ _ _ _ (c.loop-place.invariant n wide accepted) (omega arith) (omega arith)
+    (number ∙ whole L.reach xs place wide begins.narrow here)

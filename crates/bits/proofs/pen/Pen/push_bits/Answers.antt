@@ -2,9 +2,9 @@ use Rattle.std.proofs.Common.{◌≡◌, ◌+◌, ◌*◌, ◌^◌, ◌<◌, ◌
 use Rattle.bits.proofs.Writings.{joined, low_word, high_word, joined-lt, one_word, rest_lt, written_same, written_word}
 use Rattle.bits.proofs.pen.Pen.push_bits.Goals as goal
 
-pub invariant_of-self : goal.invariant_of-self
-invariant_of-self c =
-    let p = c.args.self.now in
+pub invariant_of-result : goal.invariant_of-result
+invariant_of-result c =
+    let p = c.args.self in
     let y = c.low_bits-number.result in
     let w = c.args.wide in
     let small : y < 2 ^ w = subst (λ n. n < 2 ^ w) (sym c.low_bits-number.ensures) (mod-lt c.args.number (pow_pos w)) in
@@ -16,24 +16,23 @@ invariant_of-self c =
 
 pub returns-then-fill-lt64 : goal.returns-then-fill-lt64
 returns-then-fill-lt64 c =
-    let p = c.args.self.now in
+    let p = c.args.self in
     let y = c.low_bits-number.result in
     let w = c.args.wide in
     let small : y < 2 ^ w = subst (λ n. n < 2 ^ w) (sym c.low_bits-number.ensures) (mod-lt c.args.number (pow_pos w)) in
     let is = one_word y p.fill p.bits p.part p.low w small c.if-fill-lt64.true in
     record {
-      written = λ start xs within was. written_same w p _ start xs y was c.low_bits-number.ensures refl refl is refl;
+      written = λ start xs within was. written_same w p _ start c.args.out.now xs y was c.low_bits-number.ensures refl refl is;
       none = λ empty.
           let below : y < 2 ^ 0 = subst (λ b. y < 2 ^ b) empty small in
           let zero : y ≡ 0 = omega (arith, below) in
           let same : joined 0 p.fill p.bits ≡ p.bits = omega arith in
           (refl, is ∙ ap (λ n. joined n p.fill p.bits) zero ∙ same, omega (arith, empty), refl);
-      lent = refl;
     }
 
-pub invariant_of-self-2 : goal.invariant_of-self-2
-invariant_of-self-2 c =
-    let p = c.args.self.now in
+pub invariant_of-result-2 : goal.invariant_of-result-2
+invariant_of-result-2 c =
+    let p = c.args.self in
     let y = c.low_bits-number.result in
     let w = c.args.wide in
     let small : y < 2 ^ w = subst (λ n. n < 2 ^ w) (sym c.low_bits-number.ensures) (mod-lt c.args.number (pow_pos w)) in
@@ -44,7 +43,7 @@ invariant_of-self-2 c =
 
 pub returns : goal.returns
 returns c =
-    let p = c.args.self.now in
+    let p = c.args.self in
     let y = c.low_bits-number.result in
     let w = c.args.wide in
     record {
@@ -52,10 +51,9 @@ returns c =
           let filled : 64 ≤ p.fill + w = c.if-fill-lt64.false in
           let more : w * (length xs + 1) ≡ w * length xs + w = omega arith in
           let room : p.at + 8 ≤ length start = omega (arith, more, was.counted, within) in
-          let put = c.put_bytes-self.ensures.put (omega (arith, was.long)) in
-          written_word w p _ start xs y was
-          _ filled room (low_word y p.fill p.bits p.part p.low) put.1 put.0
+          let put = c.put_word-at.ensures (omega (arith, was.long)) in
+          written_word w p _ start c.args.out.now xs y was
+          _ _ filled room (low_word y p.fill p.bits p.part p.low) put.1 put.0
           refl (high_word y p.fill p.bits p.part p.low) c.low_bits-number.ensures;
       none = λ empty. absurd (omega (arith, p.part, empty));
-      lent = refl;
     }

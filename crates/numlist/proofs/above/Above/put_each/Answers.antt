@@ -15,7 +15,7 @@ loop-number-init g c = record {
   written = λ f made within.
       let w = c.args.width.bits in
       let out = c.args.out.now in
-      subst (λ xs. Written w c.new-pen.result out (map f xs)) (sym (above-none c.self.inside.skip)) (c.new-pen.ensures.written w);
+      subst (λ xs. Written w c.new-writer.result.pen out c.new-writer.result.out.now (map f xs)) (sym (above-none c.self.inside.skip)) (c.new-writer.ensures.written w);
 }
 
 pub loop-number-preserved : goal.loop-number-preserved
@@ -36,7 +36,7 @@ loop-number-preserved g c = record {
       in
       let all : room w (length (above k (take (i + 1) xs))) ≤ length out = le_trans (room_mono w (above-fewer k xs (i + 1))) within in
       let long : length (above k (take (i + 1) xs)) ≡ length (map f so_far ++ pushed w c.map.result) = sym (length-map (above k (take (i + 1) xs)) f) ∙ ap length (sym same) in
-      subst (Written w c.push_some.new.self out) same
+      subst (Written w c.push_some.new.self.pen out c.push_some.new.self.out.now) same
       (c.push_some.ensures.written out (map f so_far) (subst (λ m. room w m ≤ length out) long all) (c.loop-number.invariant.written f made within));
 }
 
@@ -50,7 +50,7 @@ returns g c f made within =
     let all = ap (above k) (take_all c.loop-number.number-index xs c.loop-number-test.false) ∙ c.self.view_is in
     let count = length-map ys f in
     let fits = subst (λ l. room w (length l) ≤ length out) (sym c.self.view_is) within in
-    let written = subst (λ l. Written w c.loop-number.pen out (map f l)) all (c.loop-number.invariant.written f made fits) in
+    let written = subst (λ l. Written w c.loop-number.writer.pen out c.loop-number.writer.out.now (map f l)) all (c.loop-number.invariant.written f made fits) in
     search rules
     ∙ c.finish.ensures w out (map f ys) (subst (λ n. room w n ≤ length out) (sym count) within) written
     ∙ ap (λ n. packed w (map f ys) ++ drop (room w n) out) count

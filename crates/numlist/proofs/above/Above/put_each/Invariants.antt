@@ -12,6 +12,6 @@ invariant-loop-number g l =
     let w = l.width.bits in
     record {
       callable : goal.F-IsAlwaysCallable g l.made;
-      lent : l.pen.out.ghost_name ≡ l.initial.pen.out.ghost_name;
-      written : (f : ℕ → ℕ) → ((x r : ℕ) → goal.F-post g l.made x r → r % 2 ^ w ≡ f x) → room w (length (above k xs)) ≤ length l.fn.out → Written w l.pen l.fn.out (map f (above k (take l.number-index xs)));
+      lent : l.writer.out.ghost_name ≡ l.initial.writer.out.ghost_name;
+      written : (f : ℕ → ℕ) → ((x r : ℕ) → goal.F-post g l.made x r → r % 2 ^ w ≡ f x) → room w (length (above k xs)) ≤ length l.fn.out → Written w l.writer.pen l.fn.out l.writer.out.now (map f (above k (take l.number-index xs)));
     }

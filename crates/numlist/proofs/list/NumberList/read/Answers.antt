@@ -6,7 +6,7 @@ use Rattle.numlist.proofs.list.NumberList.read.Goals as goal
 
 -- a list of at most 64 bits gives the number itself
 pub returns-clause-number : goal.returns-clause-number
-returns-clause-number g c = λ n few inside accepted.
+returns-clause-number g c = λ n few inside wide accepted.
     let L = g.Self.NumberList.meaning c.args.self.now in
     let bytes = c.args.bytes.now in
     let counted : c.in_ok-count.count.numbers ≡ c.args.m = search rules in
@@ -14,7 +14,7 @@ returns-clause-number g c = λ n few inside accepted.
     let x = get_or (L.numbers bytes c.args.m) c.args.i 0 in
     let here : c.args.i < length (L.numbers bytes c.args.m) = subst (λ k. c.args.i < k) (sym begins.count) inside in
     let narrow = All-get_or (λ y. y < 2 ^ L.reach) (L.numbers bytes c.args.m) c.args.i 0 here begins.narrow in
-    let small : x < 2 ^ 64 = lt_of_lt_of_le narrow (pow_mono (g.met.Self.NumberList.within c.args.self.now)) in
+    let small : x < 2 ^ 64 = lt_of_lt_of_le narrow (pow_mono wide) in
     let read = c.in_ok-read_at.ensures n (ap (L.verdict bytes) counted ∙ accepted) in
     ap Ok
     (ok-number c.in_ok-read_at.field-0 (get_or (L.numbers bytes c.in_ok-count.count.numbers) c.args.i 0 % 2 ^ 64) read

@@ -1,7 +1,7 @@
 use Rattle.std.proofs.Common.{◌≡◌, ◌≤◌, ◌++◌, drop, true, false, length, Ok, sym, refl, ap, ◌∙◌, subst, arith}
 use Rattle.bits.specs.Packing.{Narrow}
 use Rattle.numlist.specs.Calls.{narrow}
-use Rattle.numlist.proofs.Aboves.{narrow-true}
+use Rattle.numlist.proofs.Aboves.{narrow-min, narrow-true, are_words}
 use Rattle.numlist.proofs.Answering.{write_too_large, write_no_room, write_fits}
 use Rattle.numlist.proofs.list.NumberList.write.Goals as goal
 
@@ -11,7 +11,7 @@ returns-then-not-is_narrow g c =
     let L = g.Self.NumberList.meaning c.args.self.now in
     let xs = c.args.numbers.now in
     let wide : narrow L.reach xs ≡ false =
-    ap (λ w. narrow w xs) (sym c.reach.ensures) ∙ sym c.if-not-is_narrow.ensures in
+    sym (narrow-min L.reach xs (are_words xs c.type_inv.numbers)) ∙ ap (λ w. narrow w xs) (sym c.reach.ensures) ∙ sym c.if-not-is_narrow.ensures in
     record { answer = write_too_large L xs (length c.args.out.now) taken.1 wide; bytes = refl }
 
 pub returns-then-size-out : goal.returns-then-size-out
@@ -20,7 +20,7 @@ returns-then-size-out g c =
     let L = g.Self.NumberList.meaning c.args.self.now in
     let xs = c.args.numbers.now in
     let small : narrow L.reach xs ≡ true =
-    ap (λ w. narrow w xs) (sym c.reach.ensures) ∙ sym c.if-not-is_narrow.ensures in
+    sym (narrow-min L.reach xs (are_words xs c.type_inv.numbers)) ∙ ap (λ w. narrow w xs) (sym c.reach.ensures) ∙ sym c.if-not-is_narrow.ensures in
     let all = ap (λ l. length (L.string l)) taken.0 in
     record { answer = write_no_room L xs (length c.args.out.now) taken.1 small (omega (arith, c.size-size.ensures, all)); bytes = refl }
 
@@ -31,7 +31,7 @@ returns g c =
     let L = g.Self.NumberList.meaning c.args.self.now in
     let xs = c.args.numbers.now in
     let small : narrow L.reach xs ≡ true =
-    ap (λ w. narrow w xs) (sym c.reach.ensures) ∙ sym c.if-not-is_narrow.ensures in
+    sym (narrow-min L.reach xs (are_words xs c.type_inv.numbers)) ∙ ap (λ w. narrow w xs) (sym c.reach.ensures) ∙ sym c.if-not-is_narrow.ensures in
     let all = ap (λ l. length (L.string l)) taken.0 in
     let short : length (L.string xs) ≤ length c.args.out.now = omega (arith, c.size-size.ensures, all) in
     let size : c.size-size.result ≡ length (L.string xs) = omega (arith, c.size-size.ensures, all) in

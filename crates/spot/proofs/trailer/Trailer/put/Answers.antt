@@ -2,12 +2,12 @@ use Rattle.std.proofs.Common.{[], ◌∷◌, ◌++◌, drop, ap, ◌∙◌, arit
 use Rattle.bits.specs.Packing.{packed}
 use Rattle.spot.proofs.trailer.Trailer.put.Goals as goal
 
--- six numbers, one after another; the lender of the bytes gets back what the pen leaves there
+-- six numbers, one after another; the lender of the bytes gets back what the writer leaves there
 pub returns : goal.returns
 returns c =
     let t = c.args.self in
     let start = c.args.out.now in
-    let none = c.new-pen.ensures.written 32 in
+    let none = c.new-writer.ensures.written 32 in
     let one = c.push_count.ensures.written start _ (omega arith) none in
     let two = c.push_count-2.ensures.written start _ (omega arith) one in
     let three = c.push_count-3.ensures.written start _ (omega arith) two in
