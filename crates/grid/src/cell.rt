@@ -1,5 +1,6 @@
 //! A cell of the image grid.
 ghost use Rattle.std.specs.Prelude.{◌≡◌};
+ghost use Rattle.grid.specs.Cells.{same};
 ghost use Rattle.grid.specs.Joined.{joined, cell_of_joined};
 
 /// A cell of the image grid, by its column and its row. A hit is the cell that a ray landed in. Callers in C and Rust lend
@@ -9,6 +10,15 @@ ghost use Rattle.grid.specs.Joined.{joined, cell_of_joined};
 pub struct Cell {
     pub x: u32,
     pub y: u32,
+}
+
+impl Cell {
+    /// Whether both are the same cell. A derive has no clause here, so this one says what `==` of cells means.
+    pub fn is(self, other: Cell) -> bool
+        ensures { result ≡ same self other }
+    {
+        self == other
+    }
 }
 
 /// A cell as one number, its column in the upper half and its row in the lower.
