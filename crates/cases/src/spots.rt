@@ -3,7 +3,7 @@ use cellcode::RingCode;
 use grid::{Cell, Grid};
 use numlist::{Cut, Fixed};
 use sheet::{Call, Entry};
-use spot::{Make, PackRefused, run_and_pack};
+use spot::{Make, run_and_pack};
 use std::process::Abort;
 use std::test::Fail;
 
@@ -33,17 +33,14 @@ fn calls(order: [usize; 7]) -> [Entry; 8] {
     journal
 }
 
-/// The hits are put in the order of some places, and packed: what packing answers.
-fn packed(
-    order: [usize; 7],
-    codes: &mut [u64],
-    out: &mut [u8],
-) -> Result<Result<usize, PackRefused>, Fail> {
+/// The hits are put in the order of some places, and packed: the number of bytes, or that of the refusal.
+fn packed(order: [usize; 7], codes: &mut [u64], out: &mut [u8]) -> Result<Result<usize, u8>, Fail> {
     let grid = Grid::new(16).map_err(|_| Fail::new("a grid"))?;
     let make = Make::new(RingCode, list()?, 1).map_err(|_| Fail::new("a make"))?;
     let mut journal = calls(order);
     let mut cells = [Cell { x: 0, y: 0 }; 9];
-    Ok(run_and_pack(&make, grid, &mut cells, &mut journal, codes, out))
+    let answer = run_and_pack(&make, grid, &mut cells, &mut journal, codes, out);
+    Ok(answer.map_err(u8::from))
 }
 
 fn the_worked_spot(rt: &impl Abort, order: [usize; 7]) -> Result<(), Fail> {
@@ -65,14 +62,8 @@ fn any_order_gives_the_worked_spot(rt: HostRuntime) -> Result<(), Fail> {
 fn short_memory_is_refused(rt: HostRuntime) -> Result<(), Fail> {
     let order = [0, 1, 2, 3, 4, 5, 6];
     let mut out = [7; 35];
-    assert_eq!(rt;
-        packed(order, &mut [0; 6], &mut out)?,
-        Err(PackRefused::NoScratch)
-    );
-    assert_eq!(rt;
-        packed(order, &mut [0; 7], &mut out)?,
-        Err(PackRefused::NoRoom)
-    );
+    assert_eq!(rt; packed(order, &mut [0; 6], &mut out)?, Err(6));
+    assert_eq!(rt; packed(order, &mut [0; 7], &mut out)?, Err(5));
     assert!(rt; out == [7; 35]);
     Ok(())
 }
