@@ -12,7 +12,9 @@ pub const MOST_CUTS: usize = 4;
 /// A fixed list under up to four cuts.
 pub type Pile = Layer<Layer<Layer<Layer<Fixed>>>>;
 
-/// The pile of a fixed list of so many bits and cuts of these widths over it, the lowest one first.
+/// The pile of a fixed list of so many bits and cuts of these widths over it, the lowest one first. Made where it is asked for:
+/// by a call that hands it on in memory, opening a short list takes up to twice the time.
+#[inline(always)]
 pub fn new_pile(bits: u32, cuts: &[u32]) -> Result<Pile, PileRefused>
     ensures reach { IfOk result (λ pile. (⟦<Pile as NumberList>⟧.meaning pile).reach ≤ 64) }
     ensures pile { elim result [ Ok pile ↦ pile_of bits cuts.now ≡ Ok (⟦<Pile as NumberList>⟧.meaning pile) | Err refusal ↦ pile_of bits cuts.now ≡ Err refusal ] }
@@ -29,6 +31,7 @@ pub fn new_pile(bits: u32, cuts: &[u32]) -> Result<Pile, PileRefused>
 }
 
 // The list under cut `i`, if there is one.
+#[inline(always)]
 fn layer<L: NumberList + Copy>(list: L, cuts: &[u32], i: usize) -> Result<Layer<L>, PileRefused>
     ensures { Grown cuts.now i (L.NumberList.meaning list) (layered L.NumberList.meaning) result }
 {
