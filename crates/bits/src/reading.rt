@@ -76,8 +76,7 @@ pub(crate) fn whole_word(bytes: &[u8], from: usize) -> u64
 }
 
 // The bytes that are left, with 0 behind them. It calls itself, and so stays a call: the way of whole words has no loop in it.
-// Byte by byte: a copy of so many bytes is a call of `memcpy`, which takes longer for so few, and which the library for callers
-// in C would need from outside.
+// Byte by byte: a copy of so many bytes is a call of `memcpy`, which the library for callers in C would need from outside.
 fn last_word(bytes: &[u8], from: usize) -> u64
     requires { length bytes.now < from + 8 }
     ensures { result ≡ value 8 bytes.now / 2 ^ (8 * from) % 2 ^ 64 }

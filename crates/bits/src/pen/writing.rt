@@ -87,8 +87,8 @@ fn put_word(out: &mut [u8], at: usize, word: u64) -> usize
     at + 8
 }
 
-// Puts the lowest bytes of a number, the least first. Byte by byte: a copy of so many bytes is a call of `memcpy`, which takes
-// longer for so few, and which the library for callers in C would need from outside.
+// Puts the lowest bytes of a number, the least first. Byte by byte: a copy of so many bytes is a call of `memcpy`, which the
+// library for callers in C would need from outside.
 fn put_bytes(out: &mut [u8], from: usize, to: usize, number: u64)
     requires { (from ≤ to) × (to ≤ length out.old) }
     ensures { out.new ≡ take from out.old ++ (digits 8 (to - from) number ++ drop to out.old) }
