@@ -37,3 +37,7 @@ fixed_sound w some = record {
   small = λ xs narrow few. rw (length-packed w xs) (omega arith);
   bytes = λ xs narrow few. narrow-packed w xs;
 }
+
+-- a fixed list keeps to 64 bits
+pub fixed_within : (w : ℕ) → w ≤ 48 → (fixed w).reach ≤ 64
+fixed_within w small = omega arith

@@ -5,6 +5,7 @@ use Rattle.bits.specs.Widths.{allowed}
 use Rattle.numlist.specs.Calls.{cut_refusal}
 use Rattle.numlist.specs.Cuts.{cut}
 use Rattle.numlist.specs.Fixed.{fixed}
+use Rattle.numlist.specs.FixedSound.{fixed_within}
 use Rattle.numlist.specs.Lists.{Meaning}
 use Rattle.numlist.specs.declared.refusal.CutRefused.{CutRefused}
 use Rattle.pile.specs.Piles.{grown, unless, pile_of}
@@ -42,5 +43,5 @@ pub pile_reach : (w : ℕ) (cuts : List ℕ) (M : Meaning) → pile_of w cuts �
 pile_reach w cuts M is = by_width (allowed w) refl is
   where
     by_width : (fine : Bool) → allowed w ≡ fine → cond fine (grown 4 (fixed w) cuts) (Err PileRefused.Width) ≡ Ok M → M.reach ≤ 64
-    by_width true fits grows = grown_reach 4 (fixed w) M cuts (grind (arith, nat_tests)) grows
+    by_width true fits grows = grown_reach 4 (fixed w) M cuts (fixed_within w (grind (arith, nat_tests))) grows
     by_width false fits grows = absurd (never_both _ M grows)
